@@ -26,11 +26,16 @@ use Rattle.dimacs.specs.GoalClauses.{AreClausesAt, AreClausesOf, given, no_goal,
 use Rattle.cycle_encoding.specs.declared.encodings.Encoding.{Encoding}
 use Rattle.machine_table.specs.declared.tables.Table.{Table}
 use Rattle.refute_trim.specs.TrimmedAnswers.{IsTrimReport, rejected, trimmed}
+use Rattle.code_improve.specs.CycleCounts.{count_status}
+use Rattle.code_improve.specs.declared.counting.CycleCount.{CycleCount}
+use Rattle.code_improve.specs.declared.counting.CycleCount.TheVariants.{Fewest, Over, Spent as SpentOn}
+use Rattle.code_lift.specs.LiftGrammar.{IsFirstLiftFault, ReadsLifts}
+use Rattle.code_lift.specs.Views.{LiftsTree}
 use Rattle.denali_cli.specs.Outcomes.{IsReported}
 use Rattle.denali_cli.specs.Replies.{IsFaultFor, IsPastLimit, IsReadFor, IsWithinLimit, Reply, Reports, answered}
 use Rattle.denali_cli.specs.Replies.{fault_line, faulty, limit_of, too_long, too_long_line}
 use Rattle.code_check.specs.CodeGrammar.{CheckedTree, IsFirstCodesFault, ReadsCodes}
-use Rattle.denali_cli.specs.Commands.{Command, Solve, SolveLeast, Proc, Check, CheckLeast, Trim, Verify, Run, Gen, Cnf}
+use Rattle.denali_cli.specs.Commands.{Command, Solve, SolveLeast, Proc, Check, CheckLeast, Trim, Verify, Run, Gen, Cnf, Lift, Improve, ImproveLeast, Cycles}
 use Rattle.denali_cli.specs.Formats.{Format, IsFormatFault, IsReadAs, format_of, limit}
 use Rattle.denali_cli.specs.declared.commands.Format.TheVariants as formats
 use Rattle.denali_cli.specs.VerifiedTexts.{told_status}
@@ -53,6 +58,18 @@ all_report s [] h = h
 all_report s (r ∷ rs) h =
     all_report (greater s (status_of r)) rs
     (one_reports (nat_lt (status_code s) (status_code (status_of r))) s (status_of r) h (result_reports r))
+
+-- the status of counts of cycles
+count_reports : (c : CycleCount) → IsReported (count_status c)
+count_reports (Fewest k) = tt
+count_reports (Over k) = tt
+count_reports (SpentOn k) = tt
+
+counts_report : (s : Status) (cs : List CycleCount) → IsReported s → IsReported (fold (λ s c. greater s (count_status c)) s cs)
+counts_report s [] h = h
+counts_report s (c ∷ cs) h =
+    counts_report (greater s (count_status c)) cs
+    (one_reports (nat_lt (status_code s) (status_code (count_status c))) s (count_status c) h (count_reports c))
 
 -- the status of results of which something is said
 least_reports : (some : Bool) (s : Status) → IsReported s → IsReported (cond some (greater s Spent) s)
@@ -109,6 +126,13 @@ reports_report (Verify rounds nodes) text written status a =
 reports_report Run text written status a = subst IsReported (sym a.done) tt
 reports_report (Gen size) text written status a = line_reports size a.answered written status a.line
 reports_report (Cnf goal cycles) text written status a = clauses_report a.clauses
+reports_report Lift text written status a = subst IsReported (sym a.status_is) tt
+reports_report (Improve s) text written status a = subst IsReported (sym a.status_is) (all_report Done a.results tt)
+reports_report (ImproveLeast s) text written status a =
+    subst IsReported (sym a.status_is)
+    (least_reports (some_is_most a.said) (greatest_status a.results) (all_report Done a.results tt))
+reports_report (Cycles cycles conflicts) text written status a =
+    subst IsReported (sym a.status_is) (counts_report Done a.counts tt)
 
 -- what was reported on has a reading
 reports_read : (command : Command) (text written : List ℕ) (status : Status) → Reports command text written status
@@ -123,6 +147,10 @@ reports_read (Verify rounds nodes) text written status a = (a.told.checked, a.to
 reports_read Run text written status a = (a.program, a.reads)
 reports_read (Gen size) text written status a = tt
 reports_read (Cnf goal cycles) text written status a = (a.answer, a.reads)
+reports_read Lift text written status a = (a.lifts, a.reads)
+reports_read (Improve s) text written status a = (a.lifts, a.reads)
+reports_read (ImproveLeast s) text written status a = (a.lifts, a.reads)
+reports_read (Cycles cycles conflicts) text written status a = (a.lifts, a.reads)
 
 fault_is_none : (status : Status) → status ≡ ReadFault → IsReported status → ⊥
 fault_is_none status is reported = subst IsReported is reported
@@ -162,6 +190,10 @@ pub record Laws : Type 0 where
       → IsRunFault text place kind → ⊥
   pub programs_once : (text : List ℕ) (place other : ℕ) (kind another : Kind) → IsRunFault text place kind
       → IsRunFault text other another → (place ≡ other) × (kind ≡ another)
+  pub lifts_apart : (text : List ℕ) (lifts : LiftsTree) (place : ℕ) (kind : Kind) → ReadsLifts text lifts
+      → IsFirstLiftFault text place kind → ⊥
+  pub lifts_once : (text : List ℕ) (place other : ℕ) (kind another : Kind) → IsFirstLiftFault text place kind
+      → IsFirstLiftFault text other another → (place ≡ other) × (kind ≡ another)
 
 module _ (laws : Laws) where
   few_bytes : (text : List ℕ) → length text ≤ 1048576 → length text < 2 ^ 29
@@ -177,6 +209,7 @@ module _ (laws : Laws) where
   apart_as formats.Codes text place kind short read first =
       laws.codes_apart text read.0 place kind (few_bytes text short) read.1 first
   apart_as formats.Program text place kind short read first = laws.programs_apart text read.0 place kind read.1 first
+  apart_as formats.Lifts text place kind short read first = laws.lifts_apart text read.0 place kind read.1 first
 
   apart_in : (o : Option Format) (text : List ℕ) (place : ℕ) (kind : Kind)
       → ((most : ℕ) → option_map limit o ≡ Some most → length text ≤ most)
@@ -197,6 +230,7 @@ module _ (laws : Laws) where
   once_as formats.TailedAnswer text place other kind another f g = laws.tails_once text place other kind another f g
   once_as formats.Codes text place other kind another f g = laws.codes_once text place other kind another f g
   once_as formats.Program text place other kind another f g = laws.programs_once text place other kind another f g
+  once_as formats.Lifts text place other kind another f g = laws.lifts_once text place other kind another f g
 
   once_in : (o : Option Format) (text : List ℕ) (place other : ℕ) (kind another : Kind)
       → IsSomeAnd o (λ format. IsFormatFault format text place kind)

@@ -1,14 +1,16 @@
 -- What clap's clauses say of the program's words.
 use Rattle.std.proofs.Common.{◌≡◌, ◌||◌, Bool, true, false, cond, List, [], ◌∷◌, None, Some, codes, refl, sym, ap, subst, ◌∙◌, inl, inr}
 use Rattle.std.specs.Borrow.{Bor}
+use Rattle.std.specs.Box.{box_value}
 use Rattle.std.specs.Option.{option_map, option_map_or, option_and_then}
 use Rattle.std.specs.Str.{bytes_eq}
 use Rattle.std.specs.declared.option.Option.{Option}
-use Rattle.clap.specs.Words.{App, HasKind, HasMatchesOf, IsAmong, Kinds, Row, Text, fault_of, first_of, first_value, is_simple, is_simple_and_free, kind_of, rows_of, subcommand_of, subcommand_rows_of}
+use Rattle.clap.specs.Words.{App, HasKind, HasMatchesOf, IsAmong, Kinds, Row, Text, fault_of, first_of, first_value, found_of, is_simple, is_simple_and_free, kind_of, rows_of, subcommand_name_of, subcommand_of, subcommand_rows_of}
 use Rattle.clap.specs.declared.error.Error.{Error}
 use Rattle.clap.specs.declared.error.kind.ErrorKind.{ErrorKind}
 use Rattle.clap.specs.declared.error.kind.ErrorKind.TheVariants.{OutOfMemory}
 use Rattle.clap.specs.declared.parser.matches.ArgMatches.{ArgMatches}
+use Rattle.clap.specs.declared.parser.matches.ArgMatches.TheViews.{out-ArgMatches, out-SubCommand}
 use Rattle.clap.specs.declared.parser.matches.Found.{Found}
 use Rattle.clap.proofs.WalkLemmas.{first_value-rows}
 use Rattle.clap.proofs.OnLiterals.{clap_on_literals}
@@ -89,3 +91,23 @@ module _ (found : Found) (text : Option (Bor Text))
   pub flag_absent : text ≡ None → false ≡ has_least (rows_of found)
   flag_absent none =
       ap (λ o. option_map_or is_true (option_map (λ (s : Bor Text). s.now) o) false) (sym none) ∙ read_flag
+
+-- ---- the subcommand
+
+-- its name and its rows, where each of both is known
+module _ {A : Type 0} (name : A → Text) (rows : A → List Row) where
+  abbrev both : A → Text × List Row
+  both b = (name b, rows b)
+
+  both_known : (o : Option A) (n : Text) (rs : List Row) → option_map name o ≡ Some n
+      → option_map (λ (p : Text × List Row). p.1) (option_map (λ b. both b) o) ≡ Some rs
+      → option_map (λ b. both b) o ≡ Some (n, rs)
+  both_known None n rs named given = absurd cc
+  both_known (Some b) n rs named given =
+      let first : name b ≡ n = cc in let second : rows b ≡ rs = cc in λ i. Some (first i, second i)
+
+pub found_subcommand : (m : ArgMatches) (n : Text) (rs : List Row) → subcommand_name_of m ≡ Some n
+    → option_map (λ (p : Text × List Row). p.1) (subcommand_rows_of m) ≡ Some rs → subcommand_rows_of m ≡ Some (n, rs)
+found_subcommand m n rs named given =
+    both_known (λ b. (out-SubCommand (box_value b)).name.now) (λ b. rows_of (found_of (out-SubCommand (box_value b)).matches))
+    (out-ArgMatches m).subcommand n rs named given

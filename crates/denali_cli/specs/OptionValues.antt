@@ -54,6 +54,9 @@ default_goal = 1
 abbrev pub default_cycles : ℕ
 default_cycles = 8
 
+abbrev pub default_conflicts : ℕ
+default_conflicts = 20000
+
 -- ---- the options of `solve`
 
 abbrev pub no_options : Options
@@ -82,6 +85,6 @@ settings_of o = record {
   rounds = unwrap_or o.rounds default_rounds;
   nodes = unwrap_or o.nodes default_nodes;
   cycles = unwrap_or o.cycles default_cycles;
-  conflicts = unwrap_or o.conflicts 20000;
+  conflicts = unwrap_or o.conflicts default_conflicts;
   pick = unwrap_or o.pick First;
 }

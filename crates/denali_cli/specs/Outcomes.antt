@@ -75,7 +75,8 @@ IsReported _ = ⊥
 -- linked words; for `check` the lines of the verdicts on an answer, and with the flag on what is said behind it; for
 -- `trim` the answer with its refutations trimmed or the line of a rejected goal; for `verify` the lines of codes; for
 -- `run` how its program ends; for `gen` the line of a right result of its goal; for `cnf` the clauses of a goal in an
--- answer.
+-- answer; for `lift` the goals of its lifts, for `improve` the lines of their right results, whose words do what the
+-- given ones do, and for `cycles` the line of each lift.
 pub record Works (command : Command) (left left' written written' : Option (List ℕ)) (status : Status) : Type 0 where
   pub text : List ℕ
   pub bytes : List ℕ

@@ -1,12 +1,12 @@
 -- Words in plain form: a command, and then pairs of an option and its value, in any order, each option at most once and
 -- each value one of its own, and the flag at most once among them. Source: this project.
-use Rattle.std.specs.Prelude.{List, ℕ, Bool, true, [], ◌∷◌, None, Some, codes, unwrap_or, if◌then◌else◌}
+use Rattle.std.specs.Prelude.{List, ℕ, Bool, true, [], ◌∷◌, ◌&&◌, None, Some, is_none, not, codes, unwrap_or, if◌then◌else◌}
 use Rattle.std.specs.Option.{option_and_then, option_map}
 use Rattle.std.specs.declared.option.Option.{Option}
 use Rattle.std.specs.Str.{bytes_eq}
-use Rattle.denali_cli.specs.Commands.{Command, Solve, SolveLeast, Proc, Check, CheckLeast, Trim, Verify, Run, Gen, Cnf}
+use Rattle.denali_cli.specs.Commands.{Command, Solve, SolveLeast, Proc, Check, CheckLeast, Trim, Verify, Run, Gen, Cnf, Lift, Improve, ImproveLeast, Cycles}
 use Rattle.denali_cli.specs.declared.options.Options.{Options}
-use Rattle.denali_cli.specs.OptionValues.{rounds_value, nodes_value, cycles_value, conflicts_value, pick_value, no_options, settings_of, has_rounds_alone, default_rounds, default_nodes, size_value, default_size, goal_number_value, default_goal, default_cycles}
+use Rattle.denali_cli.specs.OptionValues.{rounds_value, nodes_value, cycles_value, conflicts_value, pick_value, no_options, settings_of, has_rounds_alone, default_rounds, default_nodes, size_value, default_size, goal_number_value, default_goal, default_cycles, default_conflicts}
 
 -- the value for an option that wasn't set before
 abbrev pub once : {A : Type 0} → Option A → Option A → Option A
@@ -117,6 +117,31 @@ abbrev pub verify_of : Options → Option Command
 verify_of o =
     if has_rounds_alone o then Some (Verify (unwrap_or o.rounds default_rounds) (unwrap_or o.nodes default_nodes)) else None
 
+-- the command of `improve` with these options, which are those of `solve`
+abbrev pub improve_of : Options → Command
+improve_of o = if o.least then ImproveLeast (settings_of o) else Improve (settings_of o)
+
+-- no other option is set than the most cycles and the conflicts for each
+abbrev pub has_cycles_alone : Options → Bool
+has_cycles_alone o = is_none o.rounds && (is_none o.nodes && (is_none o.pick && not o.least))
+
+-- the command of `cycles` with these options
+abbrev pub cycles_of : Options → Option Command
+cycles_of o =
+    if has_cycles_alone o then Some (Cycles (unwrap_or o.cycles default_cycles) (unwrap_or o.conflicts default_conflicts))
+    else None
+
+-- the command on machine words that the words name
+abbrev pub plain_on_words : List ℕ → List (List ℕ) → Option Command
+plain_on_words name words =
+    if bytes_eq name (codes "lift")
+    then alone Lift words
+    else if bytes_eq name (codes "improve")
+    then option_map improve_of (set_options no_options words)
+    else if bytes_eq name (codes "cycles")
+    then option_and_then cycles_of (set_options no_options words)
+    else None
+
 -- the command of words in plain form; none for other words
 abbrev pub plain_command : List (List ℕ) → Option Command
 plain_command [] = None
@@ -137,4 +162,4 @@ plain_command (name ∷ words) =
     then option_map (λ size. Gen size) (size_in words)
     else if bytes_eq name (codes "cnf")
     then plain_cnf words
-    else None
+    else plain_on_words name words

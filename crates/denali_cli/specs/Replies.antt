@@ -14,8 +14,11 @@ use Rattle.least_launch.specs.LeastAnswers.{AnswersLeast}
 use Rattle.least_launch.specs.LeastChecks.{ChecksLeast}
 use Rattle.proc_link.specs.ProcAnswers.{AnswersProc}
 use Rattle.dimacs.specs.GoalClauses.{GivesClauses}
+use Rattle.code_improve.specs.CycleCounts.{CountsCycles}
+use Rattle.code_improve.specs.ImprovedTexts.{ImprovesLeast, ImprovesText}
+use Rattle.code_improve.specs.LiftedTexts.{LiftsText}
 use Rattle.refute_trim.specs.TrimmedAnswers.{TrimsText}
-use Rattle.denali_cli.specs.Commands.{Command, Solve, SolveLeast, Proc, Check, CheckLeast, Trim, Verify, Run, Gen, Cnf}
+use Rattle.denali_cli.specs.Commands.{Command, Solve, SolveLeast, Proc, Check, CheckLeast, Trim, Verify, Run, Gen, Cnf, Lift, Improve, ImproveLeast, Cycles}
 use Rattle.denali_cli.specs.Formats.{IsFormatFault, IsReadAs, format_of, limit}
 use Rattle.denali_cli.specs.VerifiedTexts.{VerifiesText}
 
@@ -63,6 +66,10 @@ Reports (Verify rounds nodes) text bytes status = VerifiesText rounds nodes text
 Reports Run text bytes status = RunsText text bytes status
 Reports (Gen size) text bytes status = AnswersGenerated size bytes status
 Reports (Cnf goal cycles) text bytes status = GivesClauses (goal - 1) cycles text bytes status
+Reports Lift text bytes status = LiftsText text bytes status
+Reports (Improve s) text bytes status = ImprovesText s text bytes status
+Reports (ImproveLeast s) text bytes status = ImprovesLeast s text bytes status
+Reports (Cycles cycles conflicts) text bytes status = CountsCycles cycles conflicts text bytes status
 
 -- The bytes that answer a command and the bytes read, and the status: one row for each kind of text.
 pub data Reply (command : Command) (text written : List ℕ) (status : Status) : Type 0 where

@@ -7,10 +7,10 @@ use Rattle.std.specs.declared.option.Option.{Option}
 use Rattle.std.specs.Str.{bytes_eq}
 use Rattle.clap.specs.Words.{App, Kinds, Row, Rule, Text, fault_of, first_of, new_app, new_rule, subcommand_of, with_rule, with_subcommand}
 use Rattle.clap.specs.declared.builder.action.ArgAction.TheVariants.{Set, SetTrue}
-use Rattle.denali_cli.specs.Commands.{Command, Proc, Check, CheckLeast, Trim, Verify, Run, Gen}
+use Rattle.denali_cli.specs.Commands.{Command, Proc, Check, CheckLeast, Trim, Verify, Run, Gen, Lift, Cycles}
 use Rattle.denali_cli.specs.declared.options.Options.{Options}
-use Rattle.denali_cli.specs.PlainForms.{cnf_of, solve_of}
-use Rattle.denali_cli.specs.OptionValues.{rounds_value, nodes_value, cycles_value, conflicts_value, pick_value, settings_of, default_rounds, default_nodes, size_value, default_size, goal_number_value}
+use Rattle.denali_cli.specs.PlainForms.{cnf_of, improve_of, solve_of}
+use Rattle.denali_cli.specs.OptionValues.{rounds_value, nodes_value, cycles_value, conflicts_value, pick_value, settings_of, default_rounds, default_nodes, size_value, default_size, goal_number_value, default_cycles, default_conflicts}
 
 -- ---- the program
 
@@ -46,6 +46,12 @@ gen_app = with_options (new_app (codes "gen")) (codes "size" ∷ [])
 abbrev pub cnf_app : App
 cnf_app = with_options (new_app (codes "cnf")) (codes "goal" ∷ codes "cycles" ∷ [])
 
+abbrev pub improve_app : App
+improve_app = with_rule (solving_app (codes "improve")) least_rule
+
+abbrev pub cycles_app : App
+cycles_app = with_options (new_app (codes "cycles")) (codes "cycles" ∷ codes "conflicts" ∷ [])
+
 -- the words are those after the program's name, and one of them is to name a subcommand
 abbrev pub of_words : App → App
 of_words a = record a { top = record a.top { no_binary_name = true; subcommand_required = true } }
@@ -56,7 +62,8 @@ with_commands a (command ∷ commands) = with_commands (with_subcommand a comman
 
 abbrev pub program : App
 program = with_commands (of_words (new_app (codes "denali")))
-    (solve_app ∷ solving_app (codes "proc") ∷ check_app ∷ new_app (codes "trim") ∷ verify_app ∷ new_app (codes "run") ∷ gen_app ∷ cnf_app ∷ [])
+    (solve_app ∷ solving_app (codes "proc") ∷ check_app ∷ new_app (codes "trim") ∷ verify_app ∷ new_app (codes "run") ∷ gen_app ∷ cnf_app
+    ∷ new_app (codes "lift") ∷ improve_app ∷ cycles_app ∷ [])
 
 -- clap finds no fault
 abbrev pub is_taken : Kinds → Bool
@@ -125,18 +132,40 @@ cnf_in rows =
     (value_given cycles_value (first_of (codes "cycles") rows)))
     (value_given goal_number_value (first_of (codes "goal") rows))
 
+abbrev pub improve_in : List Row → Option Command
+improve_in rows = option_map improve_of (options_in rows)
+
+abbrev pub cycles_in : List Row → Option Command
+cycles_in rows =
+    option_and_then (λ cycles.
+    option_map (λ conflicts. Cycles (unwrap_or cycles default_cycles) (unwrap_or conflicts default_conflicts))
+    (value_given conflicts_value (first_of (codes "conflicts") rows)))
+    (value_given cycles_value (first_of (codes "cycles") rows))
+
+-- the command on machine words of this name with these matches
+abbrev pub command_on_words : Text → List Row → Option Command
+command_on_words name rows =
+    if bytes_eq name (codes "lift") then Some Lift
+    else if bytes_eq name (codes "improve") then improve_in rows
+    else if bytes_eq name (codes "cycles") then cycles_in rows
+    else None
+
+-- the command of this name with these matches
+abbrev pub command_named : Text → List Row → Option Command
+command_named name rows =
+    if bytes_eq name (codes "solve") then solve_in rows
+    else if bytes_eq name (codes "proc") then proc_in rows
+    else if bytes_eq name (codes "check") then Some (check_in rows)
+    else if bytes_eq name (codes "trim") then Some Trim
+    else if bytes_eq name (codes "verify") then verify_in rows
+    else if bytes_eq name (codes "run") then Some Run
+    else if bytes_eq name (codes "gen") then gen_in rows
+    else if bytes_eq name (codes "cnf") then cnf_in rows
+    else command_on_words name rows
+
 -- the command of a subcommand with these matches
 abbrev pub command_in : Text × List Row → Option Command
-command_in m =
-    if bytes_eq m.0 (codes "solve") then solve_in m.1
-    else if bytes_eq m.0 (codes "proc") then proc_in m.1
-    else if bytes_eq m.0 (codes "check") then Some (check_in m.1)
-    else if bytes_eq m.0 (codes "trim") then Some Trim
-    else if bytes_eq m.0 (codes "verify") then verify_in m.1
-    else if bytes_eq m.0 (codes "run") then Some Run
-    else if bytes_eq m.0 (codes "gen") then gen_in m.1
-    else if bytes_eq m.0 (codes "cnf") then cnf_in m.1
-    else None
+command_in m = command_named m.0 m.1
 
 -- the command that the words ask for as clap reads them
 abbrev pub spelled_command : List Text → Option Command

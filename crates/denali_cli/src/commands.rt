@@ -27,6 +27,14 @@ pub(crate) enum Command {
     Gen(u32),
     /// Writes the clauses for so many cycles of the goal of a number in an answer, counted from 1.
     Cnf { goal: u32, cycles: u32 },
+    /// Writes the goals of machine words.
+    Lift,
+    /// Answers machine words with words that do the same in the fewest cycles.
+    Improve(Settings),
+    /// The same with the fewest launches.
+    ImproveLeast(Settings),
+    /// Tells in how many cycles machine words can be done, of so many at most and with so many conflicts for each.
+    Cycles { cycles: u32, conflicts: u32 },
 }
 
 /// What a text is that a command reads.
@@ -40,6 +48,8 @@ pub(crate) enum Format {
     /// Goals and codes for them.
     Codes,
     Program,
+    /// Machine words, and which registers count behind them.
+    Lifts,
 }
 
 impl Command {
@@ -55,6 +65,10 @@ impl Command {
             Command::Verify { .. } => Some(Format::Codes),
             Command::Run => Some(Format::Program),
             Command::Gen(_) => None,
+            Command::Lift
+            | Command::Improve(_)
+            | Command::ImproveLeast(_)
+            | Command::Cycles { .. } => Some(Format::Lifts),
         }
     }
 }
@@ -66,7 +80,8 @@ impl Format {
         ensures small { result ≤ 268435456 }
     {
         match self {
-            Format::Goals | Format::Proc | Format::Codes | Format::Program => 1048576,
+            Format::Goals | Format::Proc | Format::Codes | Format::Program | Format::Lifts =>
+                1048576,
             Format::Answer | Format::TailedAnswer => 268435456,
         }
     }

@@ -14,6 +14,7 @@ ghost use Rattle.denali_cli.specs.Outcomes.{Decides, IsReader, IsUnread, IsWhole
 use crate::commands::Command;
 use crate::words::asked;
 use code_check::{Told, verify_text};
+use code_improve::{cycles_text, improve_least_text, improve_text, lift_text};
 use denali_run::{check_text, gen_text, run_text, solve_text};
 use dimacs::clauses_text;
 use items::NoMemory;
@@ -127,6 +128,10 @@ fn report_on(alloc: Global, command: Command, text: &[u8]) -> Result<Report, Tex
         Command::Run => run_text(alloc, text),
         Command::Gen(size) => Ok(gen_text(alloc, size)?),
         Command::Cnf { goal, cycles } => clauses_text(alloc, text, goal - 1, cycles),
+        Command::Lift => lift_text(alloc, text),
+        Command::Improve(settings) => improve_text(alloc, text, &settings),
+        Command::ImproveLeast(settings) => improve_least_text(alloc, text, &settings),
+        Command::Cycles { cycles, conflicts } => cycles_text(alloc, text, cycles, conflicts),
     }
 }
 

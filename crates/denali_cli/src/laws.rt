@@ -9,6 +9,7 @@ ghost use Rattle.denali_cli.specs.Replies.{IsFaultFor, IsPastLimit, IsReadFor, I
 
 use answer_texts::one_answer;
 use code_check::codes_have_one_reading;
+use code_lift::lifts_have_one_reading;
 use goal_reader::{texts_have_one_first_fault, texts_have_one_reading};
 use least_launch::one_tailed_answer;
 use proc_goal::procs_have_one_reading;
@@ -42,4 +43,5 @@ pub fn replies_are_exact()
     one_tailed_answer();
     procs_have_one_reading();
     one_program();
+    lifts_have_one_reading();
 }

@@ -34,7 +34,10 @@ pub(crate) const DEFAULT_SIZE: u32 = 10;
 /// Which goal of an answer, and how many cycles, where no option says so.
 const DEFAULT_GOAL: u32 = 1;
 
-const DEFAULT_CYCLES: u32 = 8;
+pub(crate) const DEFAULT_CYCLES: u32 = 8;
+
+/// How many conflicts the solver may take for each number of cycles where no option says so.
+pub(crate) const DEFAULT_CONFLICTS: u32 = 20_000;
 
 /// The options that words have set.
 #[derive(Clone, Copy, Debug, PartialEq, Eq)]
@@ -191,7 +194,7 @@ pub(crate) fn settings_of(options: Options) -> Settings
         rounds: options.rounds.unwrap_or(DEFAULT_ROUNDS),
         nodes: options.nodes.unwrap_or(DEFAULT_NODES),
         cycles: options.cycles.unwrap_or(DEFAULT_CYCLES),
-        conflicts: options.conflicts.unwrap_or(20000),
+        conflicts: options.conflicts.unwrap_or(DEFAULT_CONFLICTS),
         pick: options.pick.unwrap_or(Pick::First),
     }
 }
@@ -207,6 +210,20 @@ pub(crate) fn solve_of(options: Options) -> Command
         Command::SolveLeast(settings)
     } else {
         Command::Solve(settings)
+    }
+}
+
+/// The command of `improve` with these options.
+pub(crate) fn improve_of(options: Options) -> Command
+    requires { values.AreInRange options }
+    ensures value { result ≡ plain.improve_of options }
+    ensures within { HasValuesInRange result }
+{
+    let settings = settings_of(options);
+    if options.least {
+        Command::ImproveLeast(settings)
+    } else {
+        Command::Improve(settings)
     }
 }
 

@@ -9,8 +9,9 @@ ghost use Rattle.denali_cli.specs.Spellings as spec;
 
 use crate::commands::Command;
 use crate::options::{
-    DEFAULT_NODES, DEFAULT_ROUNDS, DEFAULT_SIZE, MOST_CONFLICTS, MOST_GOALS, MOST_NODES,
-    MOST_ROUNDS, MOST_SIZE, Options, cnf_of, pick_of, settings_of, solve_of, value_in,
+    DEFAULT_CONFLICTS, DEFAULT_CYCLES, DEFAULT_NODES, DEFAULT_ROUNDS, DEFAULT_SIZE, MOST_CONFLICTS,
+    MOST_GOALS, MOST_NODES, MOST_ROUNDS, MOST_SIZE, Options, cnf_of, improve_of, pick_of,
+    settings_of, solve_of, value_in,
 };
 use clap::error::ErrorKind;
 use clap::{Arg, ArgAction, ArgMatches, Command as Parser};
@@ -116,14 +117,49 @@ fn checking_commands<'a>(alloc: Global) -> Result<Parser<'a>, NoMemory>
         .subcommand(Parser::new(alloc, "run"))
 }
 
-/// The program with all its commands.
-fn program<'a>(alloc: Global) -> Result<Parser<'a>, NoMemory>
-    ensures { IfOk result (λ c. app_of c ≡ spec.program) }
+/// `cycles` with its options.
+fn cycles_parser<'a>(alloc: Global) -> Result<Parser<'a>, NoMemory>
+    ensures app { IfOk result (λ c. app_of c ≡ spec.cycles_app) }
+    ensures local { IfOk result (λ c. (fields_of c).has_globals ≡ false) }
+{
+    let parser = with_argument(alloc, Parser::new(alloc, "cycles"), "cycles")?;
+    with_argument(alloc, parser, "conflicts")
+}
+
+/// The program with its commands but those on machine words.
+fn writing_commands<'a>(alloc: Global) -> Result<Parser<'a>, NoMemory>
+    ensures { IfOk result (λ c. app_of c
+        ≡ spec.with_commands (spec.of_words (new_app (codes "denali")))
+        (spec.solve_app ∷ spec.solving_app (codes "proc") ∷ spec.check_app ∷ new_app (codes "trim") ∷ spec.verify_app
+        ∷ new_app (codes "run") ∷ spec.gen_app ∷ spec.cnf_app ∷ [])) }
 {
     let first = checking_commands(alloc)?;
     let generator = with_argument(alloc, Parser::new(alloc, "gen"), "size")?;
     let clauses = cnf_parser(alloc)?;
     first.subcommand(generator)?.subcommand(clauses)
+}
+
+/// The program with its commands but `cycles`.
+fn improving_commands<'a>(alloc: Global) -> Result<Parser<'a>, NoMemory>
+    ensures { IfOk result (λ c. app_of c
+        ≡ spec.with_commands (spec.of_words (new_app (codes "denali")))
+        (spec.solve_app ∷ spec.solving_app (codes "proc") ∷ spec.check_app ∷ new_app (codes "trim") ∷ spec.verify_app
+        ∷ new_app (codes "run") ∷ spec.gen_app ∷ spec.cnf_app ∷ new_app (codes "lift") ∷ spec.improve_app ∷ [])) }
+{
+    let first = writing_commands(alloc)?;
+    let improver = with_flag(alloc, solving_parser(alloc, "improve")?)?;
+    first
+        .subcommand(Parser::new(alloc, "lift"))?
+        .subcommand(improver)
+}
+
+/// The program with all its commands.
+fn program<'a>(alloc: Global) -> Result<Parser<'a>, NoMemory>
+    ensures { IfOk result (λ c. app_of c ≡ spec.program) }
+{
+    let first = improving_commands(alloc)?;
+    let counter = cycles_parser(alloc)?;
+    first.subcommand(counter)
 }
 
 /// The number that an option is given, within two bounds.
@@ -242,12 +278,49 @@ fn cnf_in(matches: &ArgMatches<'_>) -> Option<Command>
     Some(cnf_of(goal, cycles))
 }
 
-/// The command that the matches name.
-fn command_in(matches: &ArgMatches<'_>) -> Option<Command>
-    ensures value { result ≡ option_and_then spec.command_in (subcommand_rows_of matches.now) }
+/// The command of `improve` with the options that are given.
+fn improve_in(matches: &ArgMatches<'_>) -> Option<Command>
+    ensures value { result ≡ spec.improve_in (rows_of (found_of matches.now)) }
     ensures within { IfSome result HasValuesInRange }
 {
-    let (name, matches) = matches.subcommand()?;
+    let options = options_in(matches)?;
+    Some(improve_of(options))
+}
+
+/// The command of `cycles` with the options that are given.
+fn cycles_in(matches: &ArgMatches<'_>) -> Option<Command>
+    ensures value { result ≡ spec.cycles_in (rows_of (found_of matches.now)) }
+    ensures within { IfSome result HasValuesInRange }
+{
+    let cycles = number_given(matches, "cycles", 0, MOST_CYCLES)?;
+    let conflicts = number_given(matches, "conflicts", 1, MOST_CONFLICTS)?;
+    Some(Command::Cycles {
+        cycles: cycles.unwrap_or(DEFAULT_CYCLES),
+        conflicts: conflicts.unwrap_or(DEFAULT_CONFLICTS),
+    })
+}
+
+/// The command on machine words of this name with the options that are given.
+fn command_on_words(name: &str, matches: &ArgMatches<'_>) -> Option<Command>
+    ensures value { result ≡ spec.command_on_words name.now (rows_of (found_of matches.now)) }
+    ensures within { IfSome result HasValuesInRange }
+{
+    if name == "lift" {
+        Some(Command::Lift)
+    } else if name == "improve" {
+        improve_in(matches)
+    } else if name == "cycles" {
+        cycles_in(matches)
+    } else {
+        None
+    }
+}
+
+/// The command of this name with the options that are given.
+fn command_named(name: &str, matches: &ArgMatches<'_>) -> Option<Command>
+    ensures value { result ≡ spec.command_named name.now (rows_of (found_of matches.now)) }
+    ensures within { IfSome result HasValuesInRange }
+{
     if name == "solve" {
         solve_in(matches)
     } else if name == "proc" {
@@ -265,8 +338,17 @@ fn command_in(matches: &ArgMatches<'_>) -> Option<Command>
     } else if name == "cnf" {
         cnf_in(matches)
     } else {
-        None
+        command_on_words(name, matches)
     }
+}
+
+/// The command that the matches name.
+fn command_in(matches: &ArgMatches<'_>) -> Option<Command>
+    ensures value { result ≡ option_and_then spec.command_in (subcommand_rows_of matches.now) }
+    ensures within { IfSome result HasValuesInRange }
+{
+    let (name, matches) = matches.subcommand()?;
+    command_named(name, matches)
 }
 
 /// The command that the words ask for as `clap` reads them.

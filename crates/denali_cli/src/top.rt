@@ -43,6 +43,10 @@ pub fn run<S: Source, T: Sink>(
     // the code does what its goal says in each world in which the axioms and assumptions hold. For `run` the input reads
     // as a program, and the report is how it ends. For `gen` the report is the line of a right result of the goal that is
     // made from the size.
+    // For `lift`, `improve` and `cycles` the input reads as lifts. For `lift` the report is their goals. For `improve` it is
+    // that of `solve` on these goals, and where one is scheduled, the printed words leave the same memory and the same
+    // words in the registers that count as the given ones, from all registers and memory from which those don't trap.
+    // For `cycles` it is a line for each lift: the fewest cycles of the schedules of its own words.
     ensures right { (command : Asked) → asked_by words.now ≡ Some command → IsReported result → Works command
         (S.left source.old) (S.left source.new) (T.written sink.old) (T.written sink.new) result }
 

@@ -9,8 +9,8 @@ ghost use Rattle.denali_cli.specs.Said.{asked_by};
 
 use crate::commands::Command;
 use crate::options::{
-    DEFAULT_NODES, DEFAULT_ROUNDS, MOST_GOALS, Options, cnf_of, is_flag, options_of, settings_of,
-    size_in, solve_of, value_in,
+    DEFAULT_CONFLICTS, DEFAULT_CYCLES, DEFAULT_NODES, DEFAULT_ROUNDS, MOST_GOALS, Options, cnf_of,
+    improve_of, is_flag, options_of, settings_of, size_in, solve_of, value_in,
 };
 use crate::spelling::spelled;
 use items::NoMemory;
@@ -142,6 +142,42 @@ fn verify_of(options: Options) -> Option<Command>
     })
 }
 
+/// The command of `cycles` with these options, which are the most cycles and the conflicts for each.
+fn cycles_of(options: Options) -> Option<Command>
+    requires { AreInRange options }
+    ensures value { result ≡ plain.cycles_of options }
+    ensures within { IfSome result HasValuesInRange }
+{
+    if options.rounds.is_some() || options.nodes.is_some() {
+        return None;
+    }
+    if options.pick.is_some() || options.least {
+        return None;
+    }
+    Some(Command::Cycles {
+        cycles: options.cycles.unwrap_or(DEFAULT_CYCLES),
+        conflicts: options.conflicts.unwrap_or(DEFAULT_CONFLICTS),
+    })
+}
+
+/// The command on machine words that the words name, in plain form.
+fn on_machine_words(name: &str, words: &[&str]) -> Option<Command>
+    ensures value { result ≡ plain.plain_on_words name.now (map (λ word. word.now) words.now) }
+    ensures within { IfSome result HasValuesInRange }
+{
+    if name == "lift" {
+        alone(Command::Lift, words)
+    } else if name == "improve" {
+        let options = options_of(words)?;
+        Some(improve_of(options))
+    } else if name == "cycles" {
+        let options = options_of(words)?;
+        cycles_of(options)
+    } else {
+        None
+    }
+}
+
 /// The command of words in plain form.
 fn in_plain_form(words: &[&str]) -> Option<Command>
     ensures value { result ≡ plain_command (map (λ word. word.now) words.now) }
@@ -169,7 +205,7 @@ fn in_plain_form(words: &[&str]) -> Option<Command>
     } else if *name == "cnf" {
         cnf_in(words)
     } else {
-        None
+        on_machine_words(name, words)
     }
 }
 

@@ -7,7 +7,8 @@
 //! the solver's decisions. Two lists of right results of one input with one text are one
 //! (`one_text_has_one_answer`). The bytes of right results are read as the answer that they make, if the first
 //! graph of each goal has at most 1,000,000 rows, as for each text of at most 2^20 bytes
-//! (`right_answers_are_read`); that `check` has room for all of them is no clause. `check_text`, `run_text` and
+//! (`right_answers_are_read`); that `check` has room for all of them is no clause. `fewest_cycles` tells of any graph
+//! where the trial of numbers of cycles in rising order ends (`reached`). `check_text`, `run_text` and
 //! `gen_text` give exactly their reports (`checked`, `ran`, `answered`), or the first fault of a text that is read.
 #![tactic(auto)]
 
@@ -31,6 +32,7 @@ pub use goal_solving::solve_goal;
 pub use laws::{one_text_has_one_answer, right_answers_are_read};
 pub use reports::{Report, Status, TextError};
 pub use results::{Answered, Found, Large, Matched, Missing, Tried};
+pub use searching::{Reached, Trial, fewest_cycles};
 pub use settings::{Pick, Settings};
 pub use text_checking::check_text;
 pub use text_running::run_text;

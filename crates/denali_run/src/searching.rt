@@ -1,5 +1,5 @@
 // Numbers of cycles in rising order, until they are enough.
-ghost use Rattle.std.specs.Prelude.{◌≡◌, ◌≤◌, IfOk};
+ghost use Rattle.std.specs.Prelude.{◌≡◌, ◌<◌, ◌≤◌, IfOk, length};
 ghost use Rattle.schedule_meaning.specs.Limits.{most_cycles};
 ghost use Rattle.cycle_encoding.specs.Encodings.{IsScope};
 ghost use Rattle.goal_meaning.specs.Views.{GoalTree, InputTree};
@@ -7,6 +7,7 @@ ghost use Rattle.graph_meaning.specs.WellFormed.{IsLaunchGraph};
 ghost use Rattle.machine_table.specs.Tables.{IsTable};
 ghost use Rattle.order_encoding.specs.WholeFormula.{formula_in};
 ghost use Rattle.denali_run.specs.MatchedGoals.{IsMatched, IsSettings};
+ghost use Rattle.denali_run.specs.Picks.{PicksPlace};
 ghost use Rattle.denali_run.specs.Right.{Right};
 ghost use Rattle.denali_run.specs.Trials.{IsLargeBy, IsTrialsEnd, IsTrialsEndIn, IsTrial};
 ghost use Rattle.cycle_encoding.specs.declared.encodings.Encoding.TheVariants.{Pinned};
@@ -28,7 +29,7 @@ use std::alloc::{AllocError, Global};
 
 /// What the clauses for a number of cycles come to.
 #[derive(Drop)]
-pub(crate) enum Trial {
+pub enum Trial {
     Fitting(Schedule),
     Refuted(Lines),
     Spent(Lines),
@@ -84,10 +85,10 @@ pub(crate) fn try_cycles<F: Rule>(
 /// Where the trial of numbers of cycles in rising order ended: at the first that is enough or spent a budget, or at the
 /// last that was asked for. `below` refutes the clauses for one cycle less, where `k` isn't 0.
 #[derive(Drop)]
-pub(crate) struct Reached {
-    pub(crate) k: u32,
-    pub(crate) below: Option<Lines>,
-    pub(crate) trial: Trial,
+pub struct Reached {
+    pub k: u32,
+    pub below: Option<Lines>,
+    pub trial: Trial,
 }
 
 /// Tries numbers of cycles in rising order. What the graph and the table say, and what has variables, is found once for
@@ -153,6 +154,51 @@ fn reach_in<F: Rule>(
             }
         }
     }
+}
+
+/// The same, where the solver's decisions are picked by a rule.
+fn reach_by<F: Rule + Drop>(
+    alloc: Global,
+    graph: &LaunchGraph,
+    table: &Table,
+    settings: &Settings,
+    rule: F,
+) -> Result<Reached, NoMemory>
+    requires table { IsTable table.now }
+    requires settings { IsSettings settings.now }
+    requires graph { IsLaunchGraph graph.now }
+    requires rule { F.answers_places rule }
+    ensures { IfOk result (IsTrialsEndIn Pinned graph.now table.now settings.now) }
+{
+    let picker = Picker::new(rule);
+    reach(alloc, graph, table, settings, &picker)
+}
+
+/// Where the trial of numbers of cycles in rising order ends for a graph, whatever it stands for. The settings say up to
+/// how many cycles, with how many conflicts for each, and how decisions are picked.
+pub fn fewest_cycles(
+    alloc: Global,
+    graph: &LaunchGraph,
+    table: &Table,
+    settings: &Settings,
+) -> Result<Reached, NoMemory>
+    requires table { IsTable table.now }
+    requires settings { IsSettings settings.now }
+    requires graph { IsLaunchGraph graph.now }
+    ensures reached { IfOk result (IsTrialsEndIn Pinned graph.now table.now settings.now) }
+{
+    let pick = settings.pick;
+    reach_by(
+        alloc,
+        graph,
+        table,
+        settings,
+        move |scores: &[u64]|
+            requires { 0 < length scores.now }
+            ensures within { result < length scores.now }
+            ensures picked { PicksPlace pick scores.now result }
+        { pick.place(scores) },
+    )
 }
 
 /// The least number of cycles that is enough for a matched graph, or what was found before it.

@@ -1,5 +1,5 @@
 // What the clauses of schedules with few launches say. The calls do nothing: their clauses are laws.
-ghost use Rattle.std.specs.Prelude.{◌≡◌, ◌++◌, ◌^◌, ◌≤◌, ℕ, Bool, List, Option, Contains, length};
+ghost use Rattle.std.specs.Prelude.{◌≡◌, ◌++◌, ◌≤◌, ℕ, Bool, List, Option, Contains, length};
 ghost use Rattle.std.specs.List.{AllZip};
 ghost use Rattle.answer_texts.specs.declared.answers.AnswerText.{AnswerText as Answer};
 ghost use Rattle.cnf_core.specs.Formula.{AreOver, Satisfies};
@@ -7,13 +7,13 @@ ghost use Rattle.cycle_encoding.specs.CycleFormula.{launch_vars, Listed as Liste
 ghost use Rattle.cycle_encoding.specs.Encodings.{AreListed};
 ghost use Rattle.cycle_encoding.specs.Shapes.{shown};
 ghost use Rattle.cycle_encoding.specs.declared.encodings.Encoding.TheVariants.{Pinned};
-ghost use Rattle.denali_run.specs.ClaimedResults.{answer_text, answer_to};
+ghost use Rattle.denali_run.specs.ClaimedResults.{StartsWithinFormat, answer_text, answer_to};
 ghost use Rattle.denali_run.specs.MatchedGoals.{IsSettings};
 ghost use Rattle.denali_run.specs.Right.{AreRightResults};
 ghost use Rattle.denali_run.specs.declared.results.Answered.{Answered as AnsweredOf};
 ghost use Rattle.denali_run.specs.declared.settings.Settings.{Settings as SettingsOf};
 ghost use Rattle.goal_meaning.specs.Views.{InputTree};
-ghost use Rattle.goal_reader.specs.Grammar.{Reads};
+ghost use Rattle.goal_meaning.specs.WellFormed.{IsInput};
 ghost use Rattle.graph_meaning.specs.WellFormed.{IsLaunchGraph};
 ghost use Rattle.graph_meaning.specs.declared.graphs.LaunchGraph.{LaunchGraph as Graph};
 ghost use Rattle.machine_table.specs.Tables.{IsTable};
@@ -32,7 +32,6 @@ ghost use Rattle.least_launch.specs.declared.tails.Tail.{Tail as TailOf};
 use answer_texts::one_answer;
 use cnf_core::counters_count;
 use denali_run::right_answers_are_read;
-use goal_reader::{read_inputs_are_well_formed, read_inputs_have_few_operators};
 use order_encoding::each_encoding_says_fits;
 use refutation_check::printed_lines_are_read_back;
 use schedule_meaning::fitting_schedules_are_small;
@@ -57,17 +56,15 @@ pub fn fewer_clauses_say_fits()
     each_encoding_says_fits();
 }
 
-/// Right results of an input, with what is said of their schedules, are read back from their text, if the text of the
-/// input has at most 2^20 bytes.
+/// Right results of an input, with what is said of their schedules, are read back from their text, if the first graph of
+/// each goal has no more rows than the format allows for a goal.
 pub fn tailed_answers_are_read()
-    ensures { (s : SettingsOf) (text : List ℕ) (input : InputTree) (results : List AnsweredOf)
-        (said : List (Option TailOf)) → Reads text input → length text ≤ 2 ^ 20 → IsSettings s
+    ensures { (s : SettingsOf) (input : InputTree) (results : List AnsweredOf) (said : List (Option TailOf))
+        → IsInput input → IsSettings s → StartsWithinFormat input
         → AreRightResults Pinned input s results → AllZip (IsTailOf input.table s.conflicts) results said
         → ReadsTailed (answer_text Pinned input results ++ lines_text (tail_lines said))
         (answer_to Pinned input results) said }
 {
-    read_inputs_are_well_formed();
-    read_inputs_have_few_operators();
     right_answers_are_read();
     printed_lines_are_lines();
     printed_lines_are_read_back();

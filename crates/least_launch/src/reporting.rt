@@ -52,7 +52,7 @@ fn with_spent(status: Status, spent: bool) -> Status
 }
 
 /// The answer to an input, of which each goal has a result, with what is said of their schedules behind it.
-pub(crate) fn report_least(
+pub fn report_least(
     alloc: Global,
     input: &Input,
     results: &[Answered],

@@ -21,7 +21,7 @@ use crate::searching::least;
 use crate::tails::Tail;
 use cnf_core::Lines;
 use denali_run::{Answered, Found, Settings, solve_goal};
-use goal_reader::{Input, read, read_inputs_are_well_formed};
+use goal_reader::{Input, read, read_inputs_are_well_formed, read_inputs_have_few_operators};
 use items::{Items, NoMemory};
 use machine_table::Table;
 use pick_rule::{Picker, Rule};
@@ -132,9 +132,9 @@ fn solve_fewest<F: Rule>(
 
 /// The results of the goals of an input, and what is said of their schedules.
 #[derive(Drop)]
-pub(crate) struct Solved {
-    pub(crate) results: Vec<Answered>,
-    pub(crate) said: Vec<Option<Tail>>,
+pub struct LeastResults {
+    pub results: Vec<Answered>,
+    pub said: Vec<Option<Tail>>,
 }
 
 /// Each goal's result with the fewest launches, in the goals' order.
@@ -143,7 +143,7 @@ fn solve_goals<F: Rule>(
     input: &Input,
     settings: &Settings,
     picker: &Picker<F>,
-) -> Result<Solved, NoMemory>
+) -> Result<LeastResults, NoMemory>
     requires input { IsInput (input_view input.now) }
     requires settings { IsSettings settings.now }
     ensures right { IfOk result (λ s. AreRightResults Pinned (input_view input.now) settings.now s.results.items) }
@@ -157,7 +157,7 @@ fn solve_goals<F: Rule>(
         results.push(answered)?;
         said.push(tail)?;
     }
-    Ok(Solved { results, said })
+    Ok(LeastResults { results, said })
 }
 
 /// The same, where the solver's decisions are picked by a rule.
@@ -166,7 +166,7 @@ fn solve_by<F: Rule + Drop>(
     input: &Input,
     settings: &Settings,
     rule: F,
-) -> Result<Solved, NoMemory>
+) -> Result<LeastResults, NoMemory>
     requires input { IsInput (input_view input.now) }
     requires settings { IsSettings settings.now }
     requires rule { F.answers_places rule }
@@ -179,7 +179,11 @@ fn solve_by<F: Rule + Drop>(
 }
 
 /// Each goal's result with the fewest launches, where the settings say how decisions are picked.
-fn solve_input(alloc: Global, input: &Input, settings: &Settings) -> Result<Solved, NoMemory>
+pub fn solve_least_input(
+    alloc: Global,
+    input: &Input,
+    settings: &Settings,
+) -> Result<LeastResults, NoMemory>
     requires input { IsInput (input_view input.now) }
     requires settings { IsSettings settings.now }
     ensures right { IfOk result (λ s. AreRightResults Pinned (input_view input.now) settings.now s.results.items) }
@@ -212,8 +216,9 @@ pub fn solve_least_text(
     ensures error { IfErr result (IsErrorBy (IsFirstTextFault text.now)) }
 {
     read_inputs_are_well_formed();
+    read_inputs_have_few_operators();
     tailed_answers_are_read();
     let input = read(alloc, text)?;
-    let solved = solve_input(alloc, &input, settings)?;
+    let solved = solve_least_input(alloc, &input, settings)?;
     Ok(report_least(alloc, &input, &solved.results, &solved.said)?)
 }

@@ -17,6 +17,8 @@ returns c =
       procs_once = c.procs_have_one_reading.ensures.first;
       programs_apart = c.one_program.ensures.apart;
       programs_once = c.one_program.ensures.first;
+      lifts_apart = c.lifts_have_one_reading.ensures.apart;
+      lifts_once = c.lifts_have_one_reading.ensures.first;
     } in
     record {
       fault = fault laws;

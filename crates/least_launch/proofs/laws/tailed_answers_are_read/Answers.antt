@@ -1,19 +1,15 @@
-use Rattle.std.proofs.Common.{arith}
 use Rattle.cycle_encoding.specs.declared.encodings.Encoding.TheVariants.{Pinned}
 use Rattle.denali_run.specs.ClaimedResults.{answer_to}
-use Rattle.denali_run.proofs.SmallTexts.{starts_small}
 use Rattle.least_launch.proofs.SaidPrinted.{all_printable}
 use Rattle.least_launch.proofs.TailedBack.{reads_tailed}
 use Rattle.least_launch.proofs.laws.tailed_answers_are_read.Goals as goal
 
 pub returns : goal.returns
-returns c = λ s text input results said reads short set right each.
-    let is = c.read_inputs_are_well_formed.ensures text input (omega (arith, short)) reads in
-    let few = c.read_inputs_have_few_operators.ensures text input reads in
+returns c = λ s input results said is set starts right each.
     reads_tailed c.printed_lines_are_lines.ensures.lines c.printed_lines_are_read_back.ensures.among
     c.printed_lines_are_lines.ensures.number c.printed_lines_are_read_back.ensures.lines
     c.printed_lines_are_lines.ensures.each (answer_to Pinned input results)
-    (c.right_answers_are_read.ensures s input results is set (starts_small text input is few short) right) said
+    (c.right_answers_are_read.ensures s input results is set starts right) said
     (all_printable c.printed_lines_are_read_back.ensures.accepted c.fitting_schedules_are_small.ensures.few input s
     is.table
     set input.goals results said right each)

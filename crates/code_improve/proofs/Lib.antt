@@ -1,0 +1,3 @@
+mod TheSame
+mod Counted
+mod Improving

@@ -1,0 +1,4 @@
+pub mod Improved
+pub mod LiftedTexts
+pub mod ImprovedTexts
+pub mod CycleCounts

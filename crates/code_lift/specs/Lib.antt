@@ -1,0 +1,10 @@
+pub mod Limits
+pub mod Views
+pub mod Lifted
+pub mod LiftingView
+pub mod WellFormed
+pub mod LiftRoles
+pub mod LiftGrammar
+pub mod LiftReading
+pub mod Goals
+pub mod Promises

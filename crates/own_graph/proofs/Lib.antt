@@ -1,0 +1,9 @@
+mod FoundRows
+mod OwnRows
+mod OwnAddresses
+mod OwnSteps
+mod Rooms
+mod Placed
+mod Registers
+mod OwnRuns
+mod OwnGoals
