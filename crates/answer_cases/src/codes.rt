@@ -4,7 +4,9 @@ ghost use Rattle.code_check.specs.Codes.{IsCodeOf};
 ghost use Rattle.goal_meaning.specs.Views.{input_view};
 ghost use Rattle.goal_meaning.specs.WellFormed.{IsInput};
 
+use axiom_library::Library;
 use case_files::{Trouble, Words, faulty, put, put_line, put_number, put_numbers, split_line};
+use case_inputs::library_in;
 use code_check::{Checked, Part, Verified, read, verify, verify_text};
 use goal_meaning::Goal;
 use graph_meaning::Stop;
@@ -54,7 +56,13 @@ fn put_verified(report: &mut Vec<u8>, goal: &Goal, verified: Verified) -> Result
 }
 
 /// The lines of codes that are checked one by one.
-fn one_by_one(alloc: Global, checked: &Checked, rounds: u32, nodes: u32) -> Result<Vec<u8>, Trouble>
+fn one_by_one(
+    alloc: Global,
+    checked: &Checked,
+    rounds: u32,
+    nodes: u32,
+    library: Library,
+) -> Result<Vec<u8>, Trouble>
     requires input { IsInput (input_view checked.now.input) }
     requires codes { All (IsCodeOf (input_view checked.now.input)) checked.now.codes }
     requires rounds { rounds ≤ 16 }
@@ -62,7 +70,7 @@ fn one_by_one(alloc: Global, checked: &Checked, rounds: u32, nodes: u32) -> Resu
 {
     let mut report = Vec::new(alloc);
     for code in checked.codes.as_slice() {
-        let verified = verify(alloc, &checked.input, code, rounds, nodes)?;
+        let verified = verify(alloc, &checked.input, code, rounds, nodes, library)?;
         let goals = checked.input.goals.as_slice();
         let goal = goals.get(code.goal as usize).ok_or(Trouble::Unread)?;
         put_verified(&mut report, goal, verified)?;
@@ -70,8 +78,8 @@ fn one_by_one(alloc: Global, checked: &Checked, rounds: u32, nodes: u32) -> Resu
     Ok(report)
 }
 
-/// Input: a line `ROUNDS NODES`, and a text of goals and codes. Answers with a line for each code, checked with at most
-/// ROUNDS rounds and with the limit NODES on rows, and a line `status N`: 8 where some goal holds in no world, else 1
+/// Input: a line `ROUNDS NODES FAMILY..`, and a text of goals and codes. Answers with a line for each code, checked with at
+/// most ROUNDS rounds, with the limit NODES on rows and with the rules of the families' library, and a line `status N`: 8 where some goal holds in no world, else 1
 /// where some code isn't known to be its goal, else 0; or with the text's first fault. The codes are checked all at once
 /// and one by one, and a line `differs` comes first where these have other lines.
 pub(crate) fn verified(alloc: Global, input: &[u8]) -> Result<Vec<u8>, Trouble>
@@ -83,12 +91,13 @@ pub(crate) fn verified(alloc: Global, input: &[u8]) -> Result<Vec<u8>, Trouble>
     if rounds > 16 || nodes == 0 || nodes > 4096 {
         return Err(Trouble::Unread);
     }
+    let library = library_in(&mut words)?;
     let checked = match read(alloc, text) {
         Ok(checked) => checked,
         Err(fault) => return faulty(alloc, fault),
     };
-    let lines = one_by_one(alloc, &checked, rounds, nodes)?;
-    let told = match verify_text(alloc, text, rounds, nodes) {
+    let lines = one_by_one(alloc, &checked, rounds, nodes, library)?;
+    let told = match verify_text(alloc, text, rounds, nodes, library) {
         Ok(told) => told,
         Err(fault) => return faulty(alloc, fault),
     };

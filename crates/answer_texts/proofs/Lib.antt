@@ -1,10 +1,13 @@
 pub mod Destinations
+pub mod FamilyLoops
 pub mod HexDigits
 pub mod HexInstrTexts
 pub mod HexInstrWords
 pub mod HexWordLines
 pub mod InstrTexts
 pub mod LaunchLines
+pub mod LibraryLines
+pub mod SameFamilies
 pub mod PartsBelow
 pub mod PartsBetween
 pub mod PartsClaims

@@ -8,7 +8,7 @@ use Rattle.graph_meaning.specs.declared.graphs.LaunchGraph.{LaunchGraph}
 use Rattle.machine_table.specs.declared.tables.Table.{Table}
 use Rattle.text_core.specs.Lines.{Line, HasLines}
 use Rattle.text_core.specs.LineTexts.{Words, words_of_lines, lines_text}
-use Rattle.answer_texts.specs.AnswerLines.{version_words, encoding_words, table_lines, launch_words, word_words, where_words, refute_lines, lemmas_lines, rounds_words, scheduled_words, none_words, conflicts_words, size_words, noworld_words, goal_words, end_words, graph_part, claim_part, refuted_cycles, refute_part, lemmas_part, goal_lines, answer_lines, answer_bytes}
+use Rattle.answer_texts.specs.AnswerLines.{version_words, encoding_words, library_lines, table_lines, launch_words, word_words, where_words, refute_lines, lemmas_lines, rounds_words, scheduled_words, none_words, conflicts_words, size_words, noworld_words, goal_words, end_words, graph_part, claim_part, refuted_cycles, refute_part, lemmas_part, goal_lines, answer_lines, answer_bytes}
 use Rattle.answer_texts.specs.AnswerParts.{IsClaimLine, IsBodyLine, GraphPart, SchedulePart, ClaimRest, ClaimPart, BodyRest, BodyPart, GoalPart, AreGoals, no_goals, more, AnswerPart, claimed_of}
 use Rattle.answer_texts.specs.LineParts.{IsOneLine}
 use Rattle.answer_texts.specs.ReadAnswers.{ReadsAnswer}
@@ -21,6 +21,7 @@ use Rattle.answer_texts.specs.declared.parts.BodyLine.TheVariants as bodies
 use Rattle.answer_texts.specs.declared.parts.ClaimLine.{ClaimLine}
 use Rattle.answer_texts.specs.declared.parts.ClaimLine.TheVariants as lines_of
 use Rattle.answer_texts.proofs.PartsBetween.{between_all}
+use Rattle.answer_texts.proofs.LibraryLines.{has_library}
 use Rattle.answer_texts.proofs.PartsPrinted.{HasWords, has_none, has_both, has_same, has_end, has_line, has_lines, has_counted, has_below, has_table}
 
 module _ (lines : List Line) (version : ℕ) (table : Table) where
@@ -179,20 +180,25 @@ has_answer lines next answer a =
     let version = a.said in
     let encoding = a.second.said in
     let table = a.second.second.said in
-    let goals = a.second.second.second.said in
+    let library = a.second.second.second.said in
+    let goals = a.second.second.second.second.said in
+    let behind_table = a.second.second.middle in
+    let behind_library = a.second.second.second.middle in
+    let behind_goals = a.second.second.second.second.middle in
     let head = has_line lines _ 0 a.middle version (version_words version) (λ is. is.is) a.first in
     let kind = has_line lines _ a.middle a.second.middle encoding (encoding_words encoding) (λ is. is.is) a.second.first in
-    let tables = has_table lines a.second.middle a.second.second.middle table a.second.second.first in
-    let claims = has_goals lines version table.0 a.second.second.middle tables.within a.second.second.second.first.are in
-    let first : List Words = version_words version ∷ encoding_words encoding ∷ table_lines table.0 table.1 in
-    subst (λ (x : AnswerText). HasWords lines 0 next (answer_lines x)) (sym a.second.second.second.second.is)
-    (has_end lines 0 a.second.second.second.middle next (first ++ flat_map (goal_lines table.0) goals)
-    a.second.second.second.second.stays
-    (has_both lines 0 a.second.second.middle a.second.second.second.middle first (flat_map (goal_lines table.0) goals)
-    (has_both lines 0 a.middle a.second.second.middle (version_words version ∷ [])
-    (encoding_words encoding ∷ table_lines table.0 table.1) head
-    (has_both lines a.middle a.second.middle a.second.second.middle (encoding_words encoding ∷ [])
-    (table_lines table.0 table.1) kind tables))
+    let tables = has_table lines a.second.middle behind_table table a.second.second.first in
+    let families = has_library lines behind_table behind_library library tables.within a.second.second.second.first in
+    let claims = has_goals lines version table.0 behind_library families.within a.second.second.second.second.first.are in
+    let machine : List Words = table_lines table.0 table.1 ++ library_lines library in
+    let first : List Words = version_words version ∷ encoding_words encoding ∷ machine in
+    subst (λ (x : AnswerText). HasWords lines 0 next (answer_lines x)) (sym a.second.second.second.second.second.is)
+    (has_end lines 0 behind_goals next (first ++ flat_map (goal_lines table.0) goals) a.second.second.second.second.second.stays
+    (has_both lines 0 behind_library behind_goals first (flat_map (goal_lines table.0) goals)
+    (has_both lines 0 a.middle behind_library (version_words version ∷ []) (encoding_words encoding ∷ machine) head
+    (has_both lines a.middle a.second.middle behind_library (encoding_words encoding ∷ []) machine kind
+    (has_both lines a.second.middle behind_table behind_library (table_lines table.0 table.1) (library_lines library) tables
+    families)))
     claims))
 
 pub prints_text : ((lines : List Line) (text : List ℕ) → HasLines text lines → text ≡ lines_text (words_of_lines lines))

@@ -148,13 +148,13 @@ pub answer_well_formed : IsTable ev6 → (lines : List Line) → length lines < 
     → AnswerPart lines from next answer → IsAnswer answer
 answer_well_formed built lines few from next answer a =
     let table = a.second.second.first in
-    let goals = a.second.second.second in
+    let goals = a.second.second.second.second in
     subst IsAnswer (sym goals.second.is)
     (record {
       encoding = a.second.first.is.known;
       table = part_is_table lines built a.second.middle a.second.second.middle a.second.second.said table;
       built_in = built_in_same lines table.said table.middle a.second.second.middle a.second.second.said table.second;
-      goals = goals_claimed lines few a.said a.second.second.said.0 a.second.second.middle goals.first.are;
+      goals = goals_claimed lines few a.said a.second.second.said.0 a.second.second.second.middle goals.first.are;
     })
 
 pub read_well_formed : IsTable ev6 → ((text : List ℕ) (lines : List Line) → HasLines text lines → length text ≡ text_length lines)

@@ -6,6 +6,7 @@ use Rattle.text_core.specs.declared.faults.Kind.{Kind}
 use Rattle.answer_texts.specs.AnswerParts.{IsVersion, IsEncoding, GraphPart, GraphFault, answer_of, AnswerPart, AnswerPartFault}
 use Rattle.answer_texts.specs.ReadAnswers.{ReadsAnswer, IsAnswerFault, of_lines, of_answer}
 use Rattle.answer_texts.specs.declared.answers.AnswerText.{AnswerText}
+use Rattle.answer_texts.proofs.LibraryLines.{FamilyLaws, library_once}
 use Rattle.answer_texts.proofs.PartsCounted.{WordsAreOneLine}
 use Rattle.answer_texts.proofs.PartsGoals.{goals_once}
 use Rattle.answer_texts.proofs.PartsKinds.{version_once, encoding_once}
@@ -23,6 +24,7 @@ pub record Laws : Type 0 where
   pub one_line : WordsAreOneLine
   pub names : NamesAreOne
   pub built_in : IsTable ev6
+  pub families : FamilyLaws
   pub graphs : (version : ℕ) (lines : List Line) → IsOneReading (GraphPart lines version) (GraphFault lines version)
 
 module _ (laws : Laws) where
@@ -34,10 +36,12 @@ module _ (laws : Laws) where
       (λ start end encoding also.
       leads_once _ _ _ _ (table_once lines laws.names)
       (λ first last table has.
+      leads_once _ _ _ _ (library_once laws.families lines)
+      (λ start end library so.
       leads_once _ _ _ _
       (goals_once lines laws.one_line version table.0 (part_is_table lines laws.built_in first last table has)
       (laws.graphs version lines))
-      (λ low high goals are. says_once (answer_of version encoding table goals)))))
+      (λ low high goals are. says_once (answer_of version encoding table library goals))))))
 
   pub one_value : (text : List ℕ) (answer other : AnswerText) → ReadsAnswer text answer → ReadsAnswer text other
       → answer ≡ other

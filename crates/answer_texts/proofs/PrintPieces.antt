@@ -1,7 +1,8 @@
 -- Lines that are printed one after another.
-use Rattle.std.proofs.Common.{◌≡◌, ℕ, ◌+◌, ◌<◌, List, [], ◌∷◌, ◌++◌, length, take, get_or, map, refl, sym, ap, ◌∙◌, append_assoc, append-nil, codes, decimal, Bool, Option, Some}
+use Rattle.std.proofs.Common.{◌≡◌, ℕ, ◌+◌, ◌<◌, false, nat_eq, List, [], ◌∷◌, ◌++◌, length, take, get_or, map, refl, sym, ap, ◌∙◌, append_assoc, append-nil, codes, decimal, Bool, Option, Some}
 use Rattle.std.specs.Prelude.{option_copied}
 use Rattle.std.specs.List.{flat_map}
+use Rattle.std.proofs.lemmas.Bool.{false≢true}
 use Rattle.std.proofs.lemmas.List.{take_more}
 use Rattle.std.proofs.lemmas.List.Concat.{flat_map-cons}
 use Rattle.std.proofs.lemmas.Grind.{flat_map-append}
@@ -21,11 +22,14 @@ use Rattle.graph_meaning.specs.declared.graphs.LaunchGraph.{LaunchGraph}
 use Rattle.schedule_meaning.specs.Launches.{pin_of}
 use Rattle.schedule_meaning.specs.declared.schedules.Launch.{Launch}
 use Rattle.schedule_meaning.specs.declared.schedules.Schedule.{Schedule}
+use Rattle.axiom_library.specs.Names.{family_name}
+use Rattle.axiom_library.specs.declared.families.Family.{Family}
+use Rattle.axiom_library.specs.declared.libraries.Library.{Library}
 use Rattle.answer_texts.specs.declared.answers.Claim.TheVariants.{Scheduled}
 use Rattle.answer_texts.specs.declared.answers.Claimed.{Claimed}
 use Rattle.answer_texts.specs.declared.lent.ClaimedRef.{ClaimedRef}
 use Rattle.answer_texts.specs.Lent.{lent_claim, lent_claimed}
-use Rattle.answer_texts.specs.AnswerLines.{name_among, slot_words, cross_words, inst_words, own_words, own_lines, hex_text, text_words, word_words, rounds_words, goal_words, end_words, graph_part, claim_part, refute_part, lemmas_part, refuted_cycles, goal_lines, version_words, encoding_words, head_lines, table_lines, scheduled_words, slot_name, launch_words, launches_part, where_words}
+use Rattle.answer_texts.specs.AnswerLines.{name_among, slot_words, cross_words, inst_words, own_words, own_lines, hex_text, text_words, word_words, rounds_words, goal_words, end_words, graph_part, claim_part, refute_part, lemmas_part, refuted_cycles, goal_lines, version_words, encoding_words, head_lines, families_lines, families_words, library_lines, table_lines, scheduled_words, slot_name, launch_words, launches_part, where_words}
 use Rattle.answer_texts.proofs.InstrTexts.{instr_text}
 
 -- ---- items in a row
@@ -197,13 +201,23 @@ pub goal_text : (table : Table) (c : ClaimedRef) (start t1 t2 t3 t4 t5 t6 : List
 goal_text table c start t1 t2 t3 t4 t5 t6 e1 e2 e3 e4 e5 e6 =
     goal_pieces table (lent_claimed c) start t1 t2 t3 t4 t5 t6 e1 e2 e3 e4 e5 e6
 
-pub head_text : (version encoding : ℕ) (table : Table) (builtin : Bool) (start t1 t2 t3 : List ℕ)
+-- the line of some families
+pub families_text : (fs : List Family) (start t1 t2 t3 : List ℕ) → nat_eq (length fs) 0 ≡ false → t1 ≡ start ++ codes "library"
+    → t2 ≡ t1 ++ words_behind (map family_name fs) → t3 ≡ t2 ++ codes "\n" → t3 ≡ start ++ lines_text (families_lines fs)
+families_text [] start t1 t2 t3 some e1 e2 e3 = absurd (false≢true (sym some))
+families_text (f ∷ fs) start t1 t2 t3 some e1 e2 e3 =
+    line_first (families_words (f ∷ fs)) [] start t3 t3
+    (line_of (codes "library") (map family_name (f ∷ fs)) start t1 t2 t3 e1 e2 e3) (sym (append-nil t3))
+
+pub head_text : (version encoding : ℕ) (table : Table) (builtin : Bool) (library : Library) (start t1 t2 t3 t4 : List ℕ)
     → t1 ≡ start ++ line_text (version_words version) → t2 ≡ t1 ++ line_text (encoding_words encoding)
-    → t3 ≡ t2 ++ lines_text (table_lines table builtin)
-    → t3 ≡ start ++ lines_text (head_lines version encoding table builtin)
-head_text version encoding table builtin start t1 t2 t3 e1 e2 e3 =
-    line_first (version_words version) (encoding_words encoding ∷ table_lines table builtin) start t1 t3 e1
-    (line_first (encoding_words encoding) (table_lines table builtin) t1 t2 t3 e2 e3)
+    → t3 ≡ t2 ++ lines_text (table_lines table builtin) → t4 ≡ t3 ++ lines_text (library_lines library)
+    → t4 ≡ start ++ lines_text (head_lines version encoding table builtin library)
+head_text version encoding table builtin library start t1 t2 t3 t4 e1 e2 e3 e4 =
+    let tables = table_lines table builtin in
+    line_first (version_words version) (encoding_words encoding ∷ (tables ++ library_lines library)) start t1 t4 e1
+    (line_first (encoding_words encoding) (tables ++ library_lines library) t1 t2 t4 e2
+    (then_lines tables (library_lines library) t2 t3 t4 e3 e4))
 
 -- the rounds, and the graph behind them
 pub graph_text : (rounds : ℕ) (stop : Stop) (g : LaunchGraph) (start t1 t2 : List ℕ)

@@ -156,10 +156,10 @@ module _ (lines : List Line) where
       let table = h.second.second.said in
       let part = h.second.second.first in
       let named = table_rest_back part.said part.middle h.second.second.middle table part.second in
-      let goals = h.second.second.second.first in
-      let said = h.second.second.second.said in
-      let fine = goals_back h.said table.0 h.second.second.middle goals.are in
-      subst IsPrintable (sym h.second.second.second.second.is)
+      let goals = h.second.second.second.second.first in
+      let said = h.second.second.second.second.said in
+      let fine = goals_back h.said table.0 h.second.second.second.middle goals.are in
+      subst IsPrintable (sym h.second.second.second.second.second.is)
       (record {
         encoding = h.second.first.is.known;
         table = part_is_table lines built h.second.middle h.second.second.middle table part;

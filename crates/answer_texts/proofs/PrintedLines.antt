@@ -33,7 +33,10 @@ use Rattle.schedule_meaning.specs.declared.schedules.Launch.{Launch}
 use Rattle.text_core.specs.LineTexts.{Words, CanBeLine, line_text, lines_text, placed_lines, words_of_lines}
 use Rattle.text_core.specs.Lines.{Line, AreLines, IsLineWord}
 use Rattle.text_core.specs.Names.{IsName}
-use Rattle.answer_texts.specs.AnswerLines.{slot_words, name_among, inst_words, table_lines, launch_words, word_words, where_words, counted_words, stop_name, goal_words, end_words, claim_part, refuted_below, refute_part, lemmas_part, goal_lines, answer_lines}
+use Rattle.axiom_library.specs.Names.{family_name}
+use Rattle.axiom_library.specs.declared.families.Family.{Family}
+use Rattle.axiom_library.specs.declared.families.Family.TheVariants as families
+use Rattle.answer_texts.specs.AnswerLines.{families_lines, listed_families, slot_words, name_among, inst_words, table_lines, launch_words, word_words, where_words, counted_words, stop_name, goal_words, end_words, claim_part, refuted_below, refute_part, lemmas_part, goal_lines, answer_lines}
 use Rattle.answer_texts.specs.AnswerParts.{GoTogether, IsDestination, IsLaunch, IsCode, IsPlace}
 use Rattle.answer_texts.specs.Printable.{AreReadable, IsGraphClaim, AreLinesBelow, IsPrintableGoal, no_world, worked, IsPrintable}
 use Rattle.answer_texts.specs.declared.answers.AnswerText.{AnswerText}
@@ -307,6 +310,29 @@ module _ (laws : WordLaws) where
         (and_lines _ (goal_can version c (All-head (IsPrintableGoal version table) c goals fine))
         (goals_can version goals (All-tail (IsPrintableGoal version table) c goals fine)))
 
+  -- ---- the line of a library
+
+  families_can : (fs : List Family) → AreWords (map family_name fs)
+  families_can [] = no_words
+  families_can (families.Bytes ∷ fs) = a_word (record { some = λ e. cc; printed = refl }) (families_can fs)
+  families_can (families.Products ∷ fs) = a_word (record { some = λ e. cc; printed = refl }) (families_can fs)
+  families_can (families.Sums ∷ fs) = a_word (record { some = λ e. cc; printed = refl }) (families_can fs)
+  families_can (families.Halves ∷ fs) = a_word (record { some = λ e. cc; printed = refl }) (families_can fs)
+  families_can (families.Extensions ∷ fs) = a_word (record { some = λ e. cc; printed = refl }) (families_can fs)
+  families_can (families.Rounding ∷ fs) = a_word (record { some = λ e. cc; printed = refl }) (families_can fs)
+  families_can (families.Comparisons ∷ fs) = a_word (record { some = λ e. cc; printed = refl }) (families_can fs)
+  families_can (families.Minima ∷ fs) = a_word (record { some = λ e. cc; printed = refl }) (families_can fs)
+  families_can (families.Carries ∷ fs) = a_word (record { some = λ e. cc; printed = refl }) (families_can fs)
+  families_can (families.Masks ∷ fs) = a_word (record { some = λ e. cc; printed = refl }) (families_can fs)
+  families_can (families.Fields ∷ fs) = a_word (record { some = λ e. cc; printed = refl }) (families_can fs)
+  families_can (families.Constants ∷ fs) = a_word (record { some = λ e. cc; printed = refl }) (families_can fs)
+  families_can (families.Unaligned ∷ fs) = a_word (record { some = λ e. cc; printed = refl }) (families_can fs)
+
+  library_can : (fs : List Family) → CanBeLines (families_lines fs)
+  library_can [] = no_lines
+  library_can (f ∷ fs) =
+      a_line (can_be (a_word (record { some = λ e. cc; printed = refl }) (families_can (f ∷ fs)))) no_lines
+
   -- ---- answers
 
   pub answer_can : (a : AnswerText) → IsPrintable a → All CanBeLine (answer_lines a)
@@ -315,4 +341,6 @@ module _ (laws : WordLaws) where
       each_line
       (a_line (number_line (codes "denali") a.version (record { some = λ e. cc; printed = refl }) pair.0)
       (a_line (number_line (codes "encoding") a.encoding (record { some = λ e. cc; printed = refl }) pair.1)
-      (and_lines _ (table_can a.table is.names a.builtin is.table) (goals_can a.table is.names a.version a.goals is.goals))))
+      (and_lines _
+      (and_lines _ (table_can a.table is.names a.builtin is.table) (library_can (listed_families a.library)))
+      (goals_can a.table is.names a.version a.goals is.goals))))

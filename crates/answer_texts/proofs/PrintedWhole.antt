@@ -1,5 +1,5 @@
 -- Lines that are what an answer prints say it.
-use Rattle.std.proofs.Common.{◌≡◌, ◌≢◌, ℕ, ◌≤◌, Bool, true, false, List, [], ◌∷◌, ◌++◌, length, map, inl, inr, refl, sym, ap, subst, arith, append_assoc, codes}
+use Rattle.std.proofs.Common.{◌≡◌, ◌≢◌, ◌∙◌, ℕ, ◌≤◌, Bool, true, false, List, [], ◌∷◌, ◌++◌, length, map, inl, inr, refl, sym, ap, subst, arith, append_assoc, codes}
 use Rattle.std.specs.Prelude.{All, IsTrue}
 use Rattle.std.specs.List.{flat_map}
 use Rattle.std.proofs.lemmas.List.Concat.{flat_map-cons}
@@ -9,23 +9,24 @@ use Rattle.machine_table.specs.declared.tables.Table.{Table}
 use Rattle.text_core.specs.Lines.{Line}
 use Rattle.text_core.specs.LineTexts.{Words, words_of_lines}
 use Rattle.text_core.specs.Names.{IsName}
-use Rattle.answer_texts.specs.AnswerLines.{version_words, encoding_words, built_in_words, own_words, slot_words, cross_words, inst_words, table_lines, goal_lines, answer_lines}
+use Rattle.answer_texts.specs.AnswerLines.{version_words, encoding_words, built_in_words, own_words, slot_words, cross_words, inst_words, table_lines, library_lines, listed_families, goal_lines, answer_lines}
 use Rattle.answer_texts.specs.AnswerParts.{GoTogether, IsVersion, IsEncoding, IsTableLine, AreNamedSlots, IsCross, AreTableUses, OwnPart, TablePart, AnswerPart}
 use Rattle.answer_texts.specs.Printable.{IsPrintable}
 use Rattle.answer_texts.specs.declared.answers.AnswerText.{AnswerText}
 use Rattle.answer_texts.specs.declared.answers.Claimed.{Claimed}
 use Rattle.answer_texts.specs.declared.parts.TableLine.TheVariants as tables
+use Rattle.answer_texts.proofs.LibraryLines.{FamilyLaws, families_begin_not, library_stands}
 use Rattle.answer_texts.proofs.PrintedRest.{IsRest, BeginsNot, rest_ends}
 use Rattle.answer_texts.proofs.PrintedParts.{StandsBefore, says_stands, line_stands, lines_stand, leads_stands}
 use Rattle.answer_texts.proofs.PrintedClaims.{LinesAreAmong, apart}
 use Rattle.answer_texts.proofs.PrintedGoals.{PrintedAreGraphs, goals_stand}
 
--- goals begin with no instruction
-goals_begin_not : (table : Table) (goals : List Claimed) → BeginsNot (codes "inst") (flat_map (goal_lines table) goals)
-goals_begin_not table [] = tt
-goals_begin_not table (c ∷ goals) =
-    subst (BeginsNot (codes "inst")) (sym (flat_map-cons (goal_lines table) c goals))
-    (apart 0 103 105 (codes "goal") (codes "inst") refl refl (λ n. omega (arith, n)))
+-- goals begin with no other word
+goals_begin_not : (first : List ℕ) → codes "goal" ≢ first → (table : Table) (goals : List Claimed)
+    → BeginsNot first (flat_map (goal_lines table) goals)
+goals_begin_not first other table [] = tt
+goals_begin_not first other table (c ∷ goals) =
+    subst (BeginsNot first) (sym (flat_map-cons (goal_lines table) c goals)) other
 
 -- the version that goes with some encoding
 version_low : (version encoding : ℕ) → GoTogether version encoding → (1 ≤ version) × (version ≤ 2)
@@ -83,28 +84,42 @@ module _ (lines : List Line) where
   some_goals : (goals : List Claimed) → 1 ≤ length goals → goals ≢ []
   some_goals goals some e = (let none : length goals ≡ 0 = ap length e in omega (arith, some, none))
 
-  pub answer_stands : LinesAreAmong → (a : AnswerText) → PrintedAreGraphs a.version → IsPrintable a
+  pub answer_stands : LinesAreAmong → FamilyLaws → (a : AnswerText) → PrintedAreGraphs a.version → IsPrintable a
       → words_of_lines lines ≡ answer_lines a → AnswerPart lines 0 (length lines) a
-  answer_stands among a graphs is words =
+  answer_stands among families a graphs is words =
       let goals : List Words = flat_map (goal_lines a.table) a.goals in
-      let tables : List Words = table_lines a.table a.builtin ++ goals in
+      let library : List Words = library_lines a.library ++ goals in
+      let tables : List Words = table_lines a.table a.builtin ++ library in
+      let joined : answer_lines a ≡ version_words a.version ∷ encoding_words a.encoding ∷ tables =
+      ap (λ ls. version_words a.version ∷ encoding_words a.encoding ∷ ls)
+      (append_assoc (table_lines a.table a.builtin) (library_lines a.library) goals) in
       let whole = leads_stands lines _ _ (encoding_words a.encoding ∷ tables) [] 0 a.version a
       (line_stands lines IsVersion (encoding_words a.encoding ∷ tables) 0 (version_words a.version) a.version
-      (record { known = version_low a.version a.encoding is.encoding; is = refl }) (record { within = omega arith; are = words }))
+      (record { known = version_low a.version a.encoding is.encoding; is = refl })
+      (record { within = omega arith; are = words ∙ joined }))
       (λ first one.
       leads_stands lines _ _ tables [] first a.encoding a
       (line_stands lines (IsEncoding a.version) tables first (encoding_words a.encoding) a.encoding
       (record { known = is.encoding; is = refl }) one)
       (λ second two.
-      leads_stands lines _ _ goals [] second (a.table, a.builtin) a
-      (table_stands a.table a.builtin goals second is.table is.names is.built_in (goals_begin_not a.table a.goals) two)
+      leads_stands lines _ _ library [] second (a.table, a.builtin) a
+      (table_stands a.table a.builtin library second is.table is.names is.built_in
+      (families_begin_not (codes "inst") (listed_families a.library) goals
+      (apart 0 108 105 (codes "library") (codes "inst") refl refl (λ n. omega (arith, n)))
+      (goals_begin_not (codes "inst") (apart 0 103 105 (codes "goal") (codes "inst") refl refl (λ n. omega (arith, n)))
+      a.table a.goals)) two)
       (λ third three.
-      (let last = goals_stand lines among a.version graphs a.table third a.goals is.few.1 is.goals three in
-      leads_stands lines _ _ [] [] third a.goals a
+      leads_stands lines _ _ goals [] third a.library a
+      (library_stands lines families a.library goals third
+      (goals_begin_not (codes "library")
+      (apart 0 103 108 (codes "goal") (codes "library") refl refl (λ n. omega (arith, n))) a.table a.goals) three)
+      (λ fourth four.
+      (let last = goals_stand lines among a.version graphs a.table fourth a.goals is.few.1 is.goals four in
+      leads_stands lines _ _ [] [] fourth a.goals a
       (record {
         next = last.next;
         is = record { are = last.are; some = some_goals a.goals is.few.0; whole = rest_ends lines last.next last.rest };
         rest = last.rest;
       })
-      (λ end none. says_stands lines [] end a none))))) in
+      (λ end none. says_stands lines [] end a none)))))) in
       subst (λ n. AnswerPart lines 0 n a) (rest_ends lines whole.next whole.rest) whole.is

@@ -9,6 +9,10 @@ use Rattle.alpha_encode.specs.Decoded.{decoded}
 use Rattle.alpha_encode.specs.Texts.{register, second_text}
 use Rattle.alpha_encode.specs.declared.instructions.Instr.{Instr}
 use Rattle.alpha_encode.specs.declared.instructions.Instr.TheVariants.{Operate, Lda, Ldah, Load, Store, Ldq, Stq, Beq}
+use Rattle.axiom_library.specs.Libraries.{families_of}
+use Rattle.axiom_library.specs.Names.{family_name}
+use Rattle.axiom_library.specs.declared.families.Family.{Family}
+use Rattle.axiom_library.specs.declared.libraries.Library.{Library}
 use Rattle.cnf_core.specs.declared.line.Line.{Line}
 use Rattle.cnf_core.specs.declared.line.Lines.{Lines}
 use Rattle.launch_graph.specs.GraphLines.{graph_lines, pin_words, said}
@@ -71,6 +75,27 @@ own_lines table =
 
 abbrev pub table_lines : Table → Bool → List Words
 table_lines table builtin = if builtin then built_in_words ∷ [] else own_lines table
+
+-- ---- the library
+
+-- the families whose rules served the goals beside those of their text
+abbrev pub families_words : List Family → Words
+families_words families = codes "library" ∷ map family_name families
+
+-- one line, if there are families
+abbrev pub families_lines : List Family → List Words
+families_lines [] = []
+families_lines (family ∷ others) = families_words (family ∷ others) ∷ []
+
+-- the families of a library, in the order of all families
+unfoldable pub listed_families : Library → List Family
+listed_families library = families_of library
+
+abbrev pub library_words : Library → Words
+library_words library = families_words (listed_families library)
+
+abbrev pub library_lines : Library → List Words
+library_lines library = families_lines (listed_families library)
 
 -- ---- the schedule and its words
 
@@ -220,13 +245,13 @@ goal_lines table c =
 
 -- ---- the answer to a text
 
-abbrev pub head_lines : ℕ → ℕ → Table → Bool → List Words
-head_lines version encoding table builtin =
-    version_words version ∷ encoding_words encoding ∷ table_lines table builtin
+abbrev pub head_lines : ℕ → ℕ → Table → Bool → Library → List Words
+head_lines version encoding table builtin library =
+    version_words version ∷ encoding_words encoding ∷ (table_lines table builtin ++ library_lines library)
 
 abbrev pub answer_lines : AnswerText → List Words
 answer_lines a =
-    head_lines a.version a.encoding a.table a.builtin ++ flat_map (goal_lines a.table) a.goals
+    head_lines a.version a.encoding a.table a.builtin a.library ++ flat_map (goal_lines a.table) a.goals
 
 -- the bytes of an answer
 abbrev pub answer_bytes : AnswerText → List ℕ

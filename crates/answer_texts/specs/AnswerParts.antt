@@ -4,6 +4,8 @@ use Rattle.std.specs.Prelude.{⊤, ℕ, zero, suc, ◌≡◌, ◌≢◌, ◌⊎�
 use Rattle.text_core.specs.Limits.{most_goals}
 use Rattle.schedule_meaning.specs.Limits.{most_cycles}
 use Rattle.alpha_encode.specs.Decoded.{decoded}
+use Rattle.axiom_library.specs.Libraries.{no_library}
+use Rattle.axiom_library.specs.declared.libraries.Library.{Library}
 use Rattle.cnf_core.specs.declared.line.Lines.{Lines}
 use Rattle.launch_graph.specs.GraphTexts.{IsGraphOf}
 use Rattle.launch_graph.specs.LineFaults.{IsFirstFaultOf}
@@ -19,11 +21,11 @@ use Rattle.schedule_meaning.specs.Launches.{pin_of}
 use Rattle.schedule_meaning.specs.declared.schedules.To.{To}
 use Rattle.schedule_meaning.specs.declared.schedules.To.TheVariants.{Pool, Set}
 use Rattle.schedule_meaning.specs.declared.schedules.Launch.{Launch}
-use Rattle.text_core.specs.Lines.{Line}
+use Rattle.text_core.specs.Lines.{Line, line_word}
 use Rattle.text_core.specs.LineTexts.{Words}
 use Rattle.text_core.specs.Names.{IsName}
 use Rattle.text_core.specs.declared.faults.Kind.{Kind}
-use Rattle.answer_texts.specs.AnswerLines.{version_words, encoding_words, built_in_words, own_words, slot_words, cross_words, inst_words, launch_words, word_words, where_words, counted_words, rounds_words, scheduled_words, none_words, conflicts_words, size_words, noworld_words, goal_words, end_words}
+use Rattle.answer_texts.specs.AnswerLines.{version_words, encoding_words, built_in_words, own_words, slot_words, cross_words, inst_words, library_words, listed_families, launch_words, word_words, where_words, counted_words, rounds_words, scheduled_words, none_words, conflicts_words, size_words, noworld_words, goal_words, end_words}
 use Rattle.answer_texts.specs.LineParts.{IsBadOrMissingLine, IsOneLine, IsNoLine, AreLinesOf, HasBadLine, Leads, Says, LeadsFault, NoFault}
 use Rattle.answer_texts.specs.declared.answers.AnswerText.{AnswerText}
 use Rattle.answer_texts.specs.declared.answers.Claim.{Claim}
@@ -117,6 +119,29 @@ TablePart lines = Leads (IsOneLine IsTableLine lines) (TableRest lines)
 
 abbrev pub TableFault : List Line → ℕ → ℕ → Kind → Type 0
 TableFault lines = LeadsFault (IsOneLine IsTableLine lines) (IsNoLine IsTableLine lines) (TableRestFault lines)
+
+-- ---- the library
+
+-- some families, in their order and each once
+pub record IsLibrary (words : Words) (library : Library) : Type 0 where
+  pub some : listed_families library ≢ []
+  pub is : words ≡ library_words library
+
+-- a line that begins with the word `library`
+pub record BeginsLibrary (lines : List Line) (from : ℕ) : Type 0 where
+  pub within : from < length lines
+  pub begins : line_word lines from 0 ≡ codes "library"
+
+-- a library's line, or no line and no family
+pub data LibraryPart (lines : List Line) (from : ℕ) : ℕ → Library → Type 0 where
+  no_line : ¬ BeginsLibrary lines from → LibraryPart lines from from no_library
+  line : {next : ℕ} {library : Library} → IsOneLine IsLibrary lines from next library
+      → LibraryPart lines from next library
+
+-- a line that begins so and isn't that of a library
+pub record LibraryFault (lines : List Line) (from place : ℕ) (kind : Kind) : Type 0 where
+  pub begins : BeginsLibrary lines from
+  pub fault : IsNoLine IsLibrary lines from place kind
 
 -- ---- refutations and lemmas
 
@@ -347,20 +372,28 @@ pub data GoalsFault (lines : List Line) (version : ℕ) (table : Table) (from pl
 
 -- ---- answers
 
-abbrev pub answer_of : ℕ → ℕ → Table × Bool → List Claimed → AnswerText
-answer_of version encoding table goals =
-    record { version = version; encoding = encoding; table = table.0; builtin = table.1; goals = goals }
+abbrev pub answer_of : ℕ → ℕ → Table × Bool → Library → List Claimed → AnswerText
+answer_of version encoding table library goals = record {
+  version = version;
+  encoding = encoding;
+  table = table.0;
+  builtin = table.1;
+  library = library;
+  goals = goals;
+}
 
 abbrev pub AnswerPart : List Line → ℕ → ℕ → AnswerText → Type 0
 AnswerPart lines =
     Leads (IsOneLine IsVersion lines) (λ version.
     Leads (IsOneLine (IsEncoding version) lines) (λ encoding.
     Leads (TablePart lines) (λ table.
-    Leads (GoalsPart lines version table.0) (λ goals. Says (answer_of version encoding table goals)))))
+    Leads (LibraryPart lines) (λ library.
+    Leads (GoalsPart lines version table.0) (λ goals. Says (answer_of version encoding table library goals))))))
 
 abbrev pub AnswerPartFault : List Line → ℕ → ℕ → Kind → Type 0
 AnswerPartFault lines =
     LeadsFault (IsOneLine IsVersion lines) (IsNoLine IsVersion lines) (λ version.
     LeadsFault (IsOneLine (IsEncoding version) lines) (IsNoLine (IsEncoding version) lines) (λ encoding.
     LeadsFault (TablePart lines) (TableFault lines) (λ table.
-    LeadsFault (GoalsPart lines version table.0) (GoalsFault lines version table.0) (λ goals. NoFault))))
+    LeadsFault (LibraryPart lines) (LibraryFault lines) (λ library.
+    LeadsFault (GoalsPart lines version table.0) (GoalsFault lines version table.0) (λ goals. NoFault)))))

@@ -1,4 +1,5 @@
 // What the text of an answer says: of each goal its graph, what is claimed of it, and the lines that are to show it.
+use axiom_library::Library;
 use cnf_core::Lines;
 use graph_meaning::{LaunchGraph, Stop};
 use items::Items;
@@ -54,12 +55,13 @@ pub struct Claimed {
 }
 
 /// What the text of an answer says. In version 1 the encoding of the clauses is 1 or 2; in version 2 it is 3, and targets
-/// may have pins.
+/// may have pins. `library` are the families whose rules served the goals beside those of their text.
 #[derive(Drop)]
 pub struct AnswerText {
     pub version: u8,
     pub encoding: u8,
     pub table: Table,
     pub builtin: bool,
+    pub library: Library,
     pub goals: Items<Claimed>,
 }

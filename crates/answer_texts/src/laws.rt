@@ -17,6 +17,7 @@ ghost use Rattle.answer_texts.specs.WellFormed.{IsAnswer};
 ghost use Rattle.answer_texts.specs.declared.answers.AnswerText.{AnswerText as Answer};
 
 use alpha_encode::words_and_instructions;
+use axiom_library::{families_have_names, libraries_have_families};
 use launch_graph::{one_graph, one_graph_of_each_version, printed_graphs_are_lines};
 use machine_table::{instructions_have_names, tables_keep_limits};
 use refutation_check::printed_lines_are_read_back;
@@ -37,6 +38,8 @@ pub fn one_answer()
     printed_lines_are_read_back();
     instructions_have_names();
     tables_keep_limits();
+    families_have_names();
+    libraries_have_families();
 }
 
 /// An answer prints as the bytes that it was read from.
@@ -87,4 +90,6 @@ pub fn printed_answers_are_read()
     printed_lines_are_read_back();
     printed_lines_are_lines();
     operators_are_listed();
+    families_have_names();
+    libraries_have_families();
 }

@@ -17,6 +17,7 @@ mod goal_reading;
 mod hexadecimal;
 mod laws;
 mod lent;
+mod library_lines;
 mod line_printing;
 mod line_reading;
 mod parts;

@@ -7,9 +7,11 @@ ghost use Rattle.answer_texts.specs.Lent.{lent_claim, lent_claimed};
 
 use crate::answers::AnswerText;
 use crate::lent::{ClaimRef, ClaimedRef};
+use crate::library_lines::put_library;
 use crate::line_printing::{put_lines, put_pair};
 use crate::schedule_printing::{put_codes, put_launches, put_wheres};
 use crate::table_printing::put_table;
+use axiom_library::Library;
 use cnf_core::Lines;
 use graph_meaning::Stop;
 use items::{Items, NoMemory};
@@ -150,18 +152,21 @@ pub fn put_goal(
 /// Appends the lines before the first goal to a text.
 #[tactic(auto, using(crate::proofs::PrintPieces::head_text))]
 pub fn put_head(
+    alloc: Global,
     text: &mut Vec<u8>,
     version: u8,
     encoding: u8,
     table: &Table,
     builtin: bool,
+    library: Library,
 ) -> Result<(), NoMemory>
     ensures { OnOk result (text.new.items
-        ≡ text.old.items ++ lines_text (format.head_lines version encoding table.now builtin)) }
+        ≡ text.old.items ++ lines_text (format.head_lines version encoding table.now builtin library)) }
 {
     put_numbered(text, b"denali", u64::from(version))?;
     put_numbered(text, b"encoding", u64::from(encoding))?;
-    put_table(text, table, builtin)
+    put_table(text, table, builtin)?;
+    put_library(alloc, text, library)
 }
 
 /// The text of an answer. An answer that was read prints as the bytes that it was read from. The cost is linear in the
@@ -172,11 +177,13 @@ pub fn print_answer(alloc: Global, answer: &AnswerText) -> Result<Vec<u8>, NoMem
 {
     let mut text = Vec::new(alloc);
     put_head(
+        alloc,
         &mut text,
         answer.version,
         answer.encoding,
         &answer.table,
         answer.builtin,
+        answer.library,
     )?;
     for goal in answer.goals.as_slice() {
         put_goal(alloc, &mut text, &answer.table, &goal.as_ref())?;

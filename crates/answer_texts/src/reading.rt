@@ -11,6 +11,7 @@ ghost use Rattle.answer_texts.specs.declared.answers.AnswerText.{AnswerText as A
 use crate::answers::AnswerText;
 use crate::goal_reading::read_goals;
 use crate::laws::one_answer;
+use crate::library_lines::read_library;
 use crate::line_reading::{bad_line, encoding_line, version_line};
 use crate::table_reading::read_table;
 use std::alloc::Global;
@@ -53,13 +54,15 @@ fn answer_in(alloc: Global, text: &TextLines<'_>) -> Result<AnswerText, TextFaul
 {
     let version = read_version(text, 0)?;
     let encoding = read_encoding(text, 1, version)?;
-    let (table, builtin, middle) = read_table(alloc, text, 2)?;
+    let (table, builtin, behind_table) = read_table(alloc, text, 2)?;
+    let (library, middle) = read_library(alloc, text, behind_table)?;
     let goals = read_goals(alloc, text, version, &table, middle)?;
     Ok(AnswerText {
         version,
         encoding,
         table,
         builtin,
+        library,
         goals,
     })
 }

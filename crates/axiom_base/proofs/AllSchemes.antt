@@ -6,13 +6,14 @@ use Rattle.word_ops.specs.Words.{IsWord}
 use Rattle.word_ops.specs.Operators.{arity_of, operators}
 use Rattle.word_ops.specs.declared.operators.WordOp.{WordOp}
 use Rattle.axiom_base.specs.declared.kinds.Calc.{Calc}
-use Rattle.axiom_base.specs.declared.kinds.Calc.TheVariants.{C1, C2, C3, C4, C5, C6, C7, C8, C9, C10, C11, C12}
+use Rattle.axiom_base.specs.declared.kinds.Calc.TheVariants.{C1, C2, C3, C4, C5, C6, C7, C8, C9, C10, C11, C12, C13, C14, C15, C16, C17, C18, C19, C20, C21, C22, C23, C24, C25, C26, C27, C28, C29, C30, C31, C32, C33, C34, C35, C36, C37}
+use Rattle.axiom_base.specs.declared.kinds.Given.{Given}
 use Rattle.axiom_base.specs.Rewrites.{Rewrite, IsRule, IsUsable}
 use Rattle.axiom_base.specs.Equations.{equations}
 use Rattle.axiom_base.specs.Conditions.{IsCalc}
-use Rattle.axiom_base.specs.Computed.{calc_rewrite, calc_right, fold_rewrite}
+use Rattle.axiom_base.specs.Computed.{calc_rewrite, calc_right, no_constants, fold_rewrite}
 use Rattle.word_terms.specs.OperatorsIn.{operators_in}
-use Rattle.axiom_base.specs.Schemes.{Scheme, plain, computed, folding, IsOf, itself, calculated, folded, IsRuleOf, schemes, calc_kinds, weight}
+use Rattle.axiom_base.specs.Schemes.{Scheme, plain, computed, folding, IsOf, itself, calculated, folded, AddedRules, IsRuleOf, schemes, calc_kinds, weight}
 
 pub rule_usable : (r : Rewrite) → IsRule r → IsUsable r
 rule_usable r is = record {
@@ -55,12 +56,14 @@ not_plain f xs r zero_at h =
     absurd (omega (arith, e, z))
 
 -- a rule by itself is an equation or an axiom
-plain_cases : (axioms : List Rewrite) (r : Rewrite) → Contains (schemes axioms) (plain r) → Contains equations r ⊎ Contains axioms r
-plain_cases axioms r h =
-    elim (Contains-append_cases (map plain equations ++ map plain axioms ++ map computed calc_kinds) (map folding operators) (plain r) h) [
+plain_cases : (added : AddedRules) (r : Rewrite) → Contains (schemes added) (plain r) → Contains equations r ⊎ Contains added.axioms r
+plain_cases added r h =
+    let axioms = added.axioms in
+    let kinds = calc_kinds ++ added.kinds in
+    elim (Contains-append_cases (map plain equations ++ map plain axioms ++ map computed kinds) (map folding operators) (plain r) h) [
       | inr d ↦ absurd (not_plain folding operators r (λ x. refl) d)
-      | inl a ↦ elim (Contains-append_cases (map plain equations ++ map plain axioms) (map computed calc_kinds) (plain r) a) [
-        | inr d ↦ absurd (not_plain computed calc_kinds r (λ x. refl) d)
+      | inl a ↦ elim (Contains-append_cases (map plain equations ++ map plain axioms) (map computed kinds) (plain r) a) [
+        | inr d ↦ absurd (not_plain computed kinds r (λ x. refl) d)
         | inl b ↦ elim (Contains-append_cases (map plain equations) (map plain axioms) (plain r) b) [ inl c ↦ inl (plain_in equations r c) | inr c ↦ inr (plain_in axioms r c) ]
       ]
     ]
@@ -70,34 +73,59 @@ plain_cases axioms r h =
 module _
     (P : Rewrite → Type 0)
     (equations_are : All P equations)
-    (calculated_are : (kind : Calc) (cs : List ℕ) (e : ℕ) → IsCalc kind cs e → P (calc_rewrite kind cs e))
+    (calculated_are : (kind : Calc) (cs : List ℕ) (given : Given) → IsCalc kind cs given → P (calc_rewrite kind cs given))
     (folded_are : (op : WordOp) (cs : List ℕ) → All IsWord cs → length cs ≡ arity_of op → P (fold_rewrite op cs))
-    (axioms : List Rewrite)
-    (axioms_are : All P axioms)
+    (added : AddedRules)
+    (axioms_are : All P added.axioms)
   where
-    of_scheme : (s : Scheme) (r : Rewrite) → Contains (schemes axioms) s → IsOf s r → P r
-    of_scheme s r h (itself q) = elim (plain_cases axioms q h) [ inl e ↦ All-contains P equations q equations_are e | inr a ↦ All-contains P axioms q axioms_are a ]
+    of_scheme : (s : Scheme) (r : Rewrite) → Contains (schemes added) s → IsOf s r → P r
+    of_scheme s r h (itself q) = elim (plain_cases added q h) [ inl e ↦ All-contains P equations q equations_are e | inr a ↦ All-contains P added.axioms q axioms_are a ]
     of_scheme s r h (calculated kind cs e is) = calculated_are kind cs e is
     of_scheme s r h (folded op cs words count) = folded_are op cs words count
 
-    pub of_each : (r : Rewrite) → IsRuleOf axioms r → P r
+    pub of_each : (r : Rewrite) → IsRuleOf added r → P r
     of_each r h = of_scheme h.scheme r h.there h.of
 
 -- ---- operators of right sides
 
-calc_weight : (kind : Calc) (e : ℕ) → operators_in (calc_right kind e) ≡ operators_in (calc_right kind 0)
-calc_weight C1 e = refl
-calc_weight C2 e = refl
-calc_weight C3 e = refl
-calc_weight C4 e = refl
-calc_weight C5 e = refl
-calc_weight C6 e = refl
-calc_weight C7 e = refl
-calc_weight C8 e = refl
-calc_weight C9 e = refl
-calc_weight C10 e = refl
-calc_weight C11 e = refl
-calc_weight C12 e = refl
+calc_weight : (kind : Calc) (given : Given) → operators_in (calc_right kind given) ≡ operators_in (calc_right kind no_constants)
+calc_weight C1 given = refl
+calc_weight C2 given = refl
+calc_weight C3 given = refl
+calc_weight C4 given = refl
+calc_weight C5 given = refl
+calc_weight C6 given = refl
+calc_weight C7 given = refl
+calc_weight C8 given = refl
+calc_weight C9 given = refl
+calc_weight C10 given = refl
+calc_weight C11 given = refl
+calc_weight C12 given = refl
+calc_weight C13 given = refl
+calc_weight C14 given = refl
+calc_weight C15 given = refl
+calc_weight C16 given = refl
+calc_weight C17 given = refl
+calc_weight C18 given = refl
+calc_weight C19 given = refl
+calc_weight C20 given = refl
+calc_weight C21 given = refl
+calc_weight C22 given = refl
+calc_weight C23 given = refl
+calc_weight C24 given = refl
+calc_weight C25 given = refl
+calc_weight C26 given = refl
+calc_weight C27 given = refl
+calc_weight C28 given = refl
+calc_weight C29 given = refl
+calc_weight C30 given = refl
+calc_weight C31 given = refl
+calc_weight C32 given = refl
+calc_weight C33 given = refl
+calc_weight C34 given = refl
+calc_weight C35 given = refl
+calc_weight C36 given = refl
+calc_weight C37 given = refl
 
 pub weight_is : (s : Scheme) (r : Rewrite) → IsOf s r → operators_in r.right ≡ weight s
 weight_is s r (itself q) = refl

@@ -3,6 +3,7 @@ use Rattle.std.proofs.Common.{◌≡◌, ℕ, ◌+◌, ◌-◌, ◌*◌, ◌%◌
 use Rattle.std.proofs.lemmas.Bool.Decides.{nat_tests}
 use Rattle.word_ops.specs.Words.{IsWord}
 use Rattle.word_ops.specs.Values.{addq, subq, mulq, sll, lda, ldah, sign_extended}
+use Rattle.word_ops.proofs.OperatorBits.{sign_extended-lt}
 use Rattle.axiom_base.specs.Conditions.{IsDisplacement}
 
 pub sign_extended_displacement : (c : ℕ) → IsWord c → IsDisplacement c → sign_extended 16 c ≡ c
@@ -44,3 +45,8 @@ unfolding mulq addq sll
 mulq_is_sll_more x c e l h = (let d : e % 64 ≡ e = omega arith in
     let p : x * c ≡ x * 2 ^ (e % 64) + x = ap (λ n. x * n) h ∙ ap (λ n. x * (2 ^ n + 1)) (sym d) ∙ omega arith in
     ap (λ n. n % 2 ^ 64) p ∙ omega arith)
+
+-- the two parts of a constant, each added by its instruction
+pub addq_is_lda_of_ldah : (x c e : ℕ) → IsWord c → IsWord e → IsDisplacement e → subq c (sign_extended 16 c) ≡ 65536 * e % 2 ^ 64 → addq x c ≡ lda (ldah x e) c
+unfolding addq subq lda ldah
+addq_is_lda_of_ldah x c e f g s h = omega (arith, f, sign_extended_displacement e g s, sign_extended-lt 16 c (omega arith), h)

@@ -13,6 +13,10 @@ pub mod ConstantValues
 pub mod Displacements
 pub mod ByteMasks
 pub mod Addresses
+pub mod InvertedConstants
+pub mod ByteFields
+pub mod Factors
+pub mod Parities
 pub mod ComputedTruth
 pub mod ComputedSides
 pub mod Folds

@@ -22,7 +22,7 @@ pub record HasBytes (word : ℕ) (bits : ℕ → ℕ → ℕ) : Type 0 where
 
 -- ---- two words
 
-each_byte : (P : ℕ → Type 0) → P 0 → P 1 → P 2 → P 3 → P 4 → P 5 → P 6 → P 7 → (q : ℕ) → q < 8 → P q
+pub each_byte : (P : ℕ → Type 0) → P 0 → P 1 → P 2 → P 3 → P 4 → P 5 → P 6 → P 7 → (q : ℕ) → q < 8 → P q
 each_byte P a b c d e f g h zero l = a
 each_byte P a b c d e f g h (suc zero) l = b
 each_byte P a b c d e f g h (suc (suc zero)) l = c

@@ -7,6 +7,15 @@ pub mod Masks
 pub mod Carried
 pub mod ByteBits
 pub mod ByteRows
+pub mod WideFields
+pub mod FieldRows
 pub mod Truth
 pub mod Plain
 pub mod WellFormed
+pub mod Naming
+pub mod Membership
+pub mod TwoBytes
+pub mod TwoStores
+pub mod UnalignedRules
+pub mod AskedRules
+pub mod AskedSteps

@@ -2,18 +2,19 @@
 use Rattle.std.proofs.Common.{List, refl, ap}
 use Rattle.std.specs.Prelude.{All}
 use Rattle.word_ops.specs.Operators.{operate_value, value_at}
-use Rattle.word_ops.specs.declared.operates.Operate.TheVariants.{Addq, Cmpeq, Cmple, Cmplt, Cmpule, Cmpult, S4addq, S4subq, S8addq, Sextb, Sextw, Srl, Subq, Xor}
+use Rattle.word_ops.specs.declared.operates.Operate.TheVariants.{Addq, Cmpeq, Cmple, Cmplt, Cmpule, Cmpult, Extbl, Extll, Extwl, Insbl, Insll, Inswl, S4addq, S4subq, S8addq, Sextb, Sextw, Srl, Subq, Xor, Zapnot}
 use Rattle.word_ops.specs.Worlds.{word, World}
 use Rattle.goal_meaning.specs.Holds.{HoldsOfAll}
 use Rattle.goal_meaning.specs.declared.goals.DeclaredOp.{DeclaredOp}
 use Rattle.axiom_base.proofs.Rows.{Each, done, ◌▸◌, All-Each, joined}
-use Rattle.axiom_library.specs.Families.{byte_moves, small_products, large_products, sums, halves, extensions, rounding, negated_comparisons, equalities, minima, carries, axioms_of}
+use Rattle.axiom_library.specs.Families.{byte_moves, small_products, large_products, sums, halves, extensions, rounding, negated_comparisons, equalities, minima, carries, fields, axioms_of}
 use Rattle.axiom_library.specs.Families.{packing, swapping_4, swapping_8, spreading}
 use Rattle.axiom_library.specs.Families.{in_steps, in_steps_to_0, by_100, by_four_ones, by_eight_ones, by_eighth, by_halves}
 use Rattle.axiom_library.specs.Families.{zero_extension, long_extension, by_sign, round_down, less_remainder, round_up}
 use Rattle.axiom_library.specs.Families.{opposite, changed, no_difference, with_0}
 use Rattle.axiom_library.specs.Families.{negative_mask, negative_mask_less_1, mask_of, chosen, not_below_0}
 use Rattle.axiom_library.specs.Families.{carry_by_other, carry_by_not, carry_of_bits, borrow_of_bits}
+use Rattle.axiom_library.specs.Families.{field_at_0, byte_at_0, stored_in_0}
 use Rattle.axiom_library.specs.declared.families.Family.{Family}
 use Rattle.axiom_library.specs.declared.families.Family.TheVariants as families
 use Rattle.axiom_library.proofs.Readings.{of_x, of_xy, of_xym, of_abcd}
@@ -24,6 +25,7 @@ use Rattle.axiom_library.proofs.Compared as compared
 use Rattle.axiom_library.proofs.ByteRows as byte_rows
 use Rattle.axiom_library.proofs.Masks as masks
 use Rattle.axiom_library.proofs.Carried as carried
+use Rattle.axiom_library.proofs.FieldRows as field
 
 module _ (declared : List DeclaredOp) (world : World) where
   bytes_are_true : Each (HoldsOfAll declared world) byte_moves
@@ -126,6 +128,19 @@ module _ (declared : List DeclaredOp) (world : World) where
       ▸ of_xy declared world borrow_of_bits refl (λ x y h k. ap word (carried.by_difference_bits x y h k))
       ▸ done
 
+  fields_are_true : Each (HoldsOfAll declared world) fields
+  unfolding value_at operate_value
+  fields_are_true =
+      of_x declared world (byte_at_0 Insbl 0) refl (λ x h. ap word (field.insbl x h))
+      ▸ of_x declared world (byte_at_0 Extbl 0) refl (λ x h. ap word (field.extbl x h))
+      ▸ of_x declared world (byte_at_0 Zapnot 1) refl (λ x h. ap word (field.zapnot_1 x h))
+      ▸ of_x declared world (field_at_0 Insll 15) refl (λ x h. ap word (field.insll x h))
+      ▸ of_x declared world (field_at_0 Extll 15) refl (λ x h. ap word (field.extll x h))
+      ▸ of_x declared world (field_at_0 Inswl 3) refl (λ x h. ap word (field.inswl x h))
+      ▸ of_x declared world (field_at_0 Extwl 3) refl (λ x h. ap word (field.extwl x h))
+      ▸ of_x declared world stored_in_0 refl (λ x h. ap word (field.stored_in_0 x h))
+      ▸ done
+
   pub family_is_true : (family : Family) → All (HoldsOfAll declared world) (axioms_of family)
   family_is_true families.Bytes = All-Each _ _ bytes_are_true
   family_is_true families.Products = All-Each _ _ (joined small_products_are_true large_products_are_true)
@@ -136,3 +151,7 @@ module _ (declared : List DeclaredOp) (world : World) where
   family_is_true families.Comparisons = All-Each _ _ (joined negations_are_true equalities_are_true)
   family_is_true families.Minima = All-Each _ _ minima_are_true
   family_is_true families.Carries = All-Each _ _ carries_are_true
+  family_is_true families.Masks = All-Each _ _ done
+  family_is_true families.Fields = All-Each _ _ fields_are_true
+  family_is_true families.Constants = All-Each _ _ done
+  family_is_true families.Unaligned = All-Each _ _ done

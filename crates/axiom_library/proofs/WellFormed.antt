@@ -22,6 +22,10 @@ family_fits families.Rounding = refl
 family_fits families.Comparisons = refl
 family_fits families.Minima = refl
 family_fits families.Carries = refl
+family_fits families.Masks = refl
+family_fits families.Fields = refl
+family_fits families.Constants = refl
+family_fits families.Unaligned = refl
 
 pub family_is_well_formed : (declared : List DeclaredOp) (family : Family) → All (λ a. IsApart declared a → IsAxiom declared a) (axioms_of family)
 family_is_well_formed declared family = λ k d l. well_formed declared _ (AllPass-from_list_all fits (axioms_of family) (family_fits family) k d l)
@@ -40,3 +44,7 @@ among_all families.Rounding = (5, omega arith, refl)
 among_all families.Comparisons = (6, omega arith, refl)
 among_all families.Minima = (7, omega arith, refl)
 among_all families.Carries = (8, omega arith, refl)
+among_all families.Masks = (9, omega arith, refl)
+among_all families.Fields = (10, omega arith, refl)
+among_all families.Constants = (11, omega arith, refl)
+among_all families.Unaligned = (12, omega arith, refl)

@@ -1,12 +1,13 @@
 -- The library's axioms, family by family. In each row the left side comes first. Each is true for all words. The choice
--- is this project's, by what the instructions of the Alpha Architecture Handbook, version 4, do in fewest cycles.
+-- is this project's, by what the instructions of the Alpha Architecture Handbook, version 4, do in fewest cycles. Some
+-- families have other rules instead: `Asked` says which.
 use Rattle.std.specs.Prelude.{ℕ, ◌≡◌, ◌-◌, false, List, [], ◌∷◌, ◌++◌, flat_map, All, Contains}
 use Rattle.word_ops.specs.declared.operates.Operate.{Operate}
-use Rattle.word_ops.specs.declared.operates.Operate.TheVariants.{Addl, Addq, And, Bic, Bis, Cmpeq, Cmple, Cmplt, Cmpule, Cmpult, Extbl, Insbl, Mulq, S4addq, S4subq, S8addq, Sextb, Sextw, Sll, Sra, Srl, Subq, Xor, Zapnot}
-use Rattle.word_ops.specs.declared.operators.WordOp.TheVariants.{Neg, Not}
+use Rattle.word_ops.specs.declared.operates.Operate.TheVariants.{Addl, Addq, And, Bic, Bis, Cmpeq, Cmple, Cmplt, Cmpule, Cmpult, Extbl, Extll, Extwl, Insbl, Insll, Inswl, Mulq, S4addq, S4subq, S8addq, Sextb, Sextw, Sll, Sra, Srl, Subq, Xor, Zapnot}
+use Rattle.word_ops.specs.declared.operators.WordOp.TheVariants.{Neg, Not, Storeb}
 use Rattle.word_ops.specs.declared.sorts.Op.{Op}
 use Rattle.word_terms.specs.Tree.{Tree}
-use Rattle.word_terms.specs.Building.{w1, o1, o2, constant}
+use Rattle.word_terms.specs.Building.{w1, w3, o1, o2, constant}
 use Rattle.text_core.specs.Names.{is_among}
 use Rattle.goal_meaning.specs.Names.{names_of_declared}
 use Rattle.goal_meaning.specs.Views.{AxiomTree}
@@ -243,6 +244,31 @@ borrow_of_bits =
 abbrev pub carries : List AxiomTree
 carries = carry_by_other ∷ carry_by_not ∷ carry_of_bits ∷ borrow_of_bits ∷ []
 
+-- ---- fields at bit 0, and a byte put into 0
+
+-- the field that the operator takes, or puts, at offset 0 is the bytes of the mask
+abbrev pub field_at_0 : Operate → ℕ → AxiomTree
+field_at_0 op mask = over_x (λ x. (o2 op x (constant 0), o2 Zapnot x (constant mask)))
+
+-- and a single byte is the low eight bits
+abbrev pub byte_at_0 : Operate → ℕ → AxiomTree
+byte_at_0 op word = over_x (λ x. (o2 op x (constant word), o2 And x (constant 255)))
+
+abbrev pub stored_in_0 : AxiomTree
+stored_in_0 = over_x (λ x. (w3 Storeb (constant 0) (constant 0) x, o2 And x (constant 255)))
+
+abbrev pub fields : List AxiomTree
+fields =
+    byte_at_0 Insbl 0
+    ∷ byte_at_0 Extbl 0
+    ∷ byte_at_0 Zapnot 1
+    ∷ field_at_0 Insll 15
+    ∷ field_at_0 Extll 15
+    ∷ field_at_0 Inswl 3
+    ∷ field_at_0 Extwl 3
+    ∷ stored_in_0
+    ∷ []
+
 -- ---- the library
 
 abbrev pub axioms_of : Family → List AxiomTree
@@ -255,6 +281,10 @@ axioms_of families.Rounding = rounding
 axioms_of families.Comparisons = negated_comparisons ++ equalities
 axioms_of families.Minima = minima
 axioms_of families.Carries = carries
+axioms_of families.Masks = []
+axioms_of families.Fields = fields
+axioms_of families.Constants = []
+axioms_of families.Unaligned = []
 
 abbrev pub all_families : List Family
 all_families =
@@ -267,6 +297,10 @@ all_families =
     ∷ families.Comparisons
     ∷ families.Minima
     ∷ families.Carries
+    ∷ families.Masks
+    ∷ families.Fields
+    ∷ families.Constants
+    ∷ families.Unaligned
     ∷ []
 
 -- the axioms of all families

@@ -1,63 +1,87 @@
 -- Which words name families, and that no two of them are the same.
 use Rattle.std.proofs.Common.{◌≡◌, ◌≢◌, ℕ, zero, suc, ◌||◌, Bool, true, false, cond, if◌then◌else◌, List, [], ◌∷◌, map, Option, None, Some, option_map, find, bytes_eq, refl, sym, ap, ap₂, subst, ◌∙◌, arith, All}
-use Rattle.std.specs.Prelude.{AllPairs}
+use Rattle.std.specs.Prelude.{AllPairs, Contains}
 use Rattle.std.specs.Option.{option_and_then}
 use Rattle.std.proofs.lemmas.Bool.{false_from_ne_true}
-use Rattle.std.proofs.lemmas.List.Elements.{All-nil, All-cons, All-weaker}
+use Rattle.std.proofs.lemmas.List.Elements.{All-nil, All-cons, All-head, All-tail, All-contains, All-weaker}
 use Rattle.std.proofs.lemmas.List.Folds.{list_any_none}
 use Rattle.std.proofs.lemmas.List.Kept.{AllPairs-cons}
 use Rattle.std.proofs.lemmas.Option.{none-some, same_Some}
 use Rattle.std.proofs.lemmas.Slice.Eq.{bytes_eq-Decides}
 use Rattle.text_core.specs.Names.{is_among}
-use Rattle.axiom_library.specs.Families.{all_families}
+use Rattle.axiom_library.specs.Names.{family_name}
 use Rattle.axiom_library.specs.declared.families.Family.{Family}
-use Rattle.axiom_library.specs.declared.families.Family.TheVariants.{Bytes}
+use Rattle.axiom_library.proofs.Naming.{own_in}
 use Rattle.axiom_texts.specs.Asked.{IsAsked, asked_families, differ, families_named}
-use Rattle.axiom_texts.specs.Names.{family_named, family_name}
+use Rattle.axiom_texts.specs.Written.{written_families, written_named}
 
 -- ---- one name
-found : (family : Family) → family_named (family_name family) ≡ Some family
-unfolding family_named
-found Bytes = refl
-found _ = refl
+abbrev IsFound : Family → Type 0
+IsFound family = written_named (family_name family) ≡ Some family
 
-own_in : (name : List ℕ) (among : List Family) (family : Family)
-    → find (λ f. bytes_eq (family_name f) name) among ≡ Some family → family_name family ≡ name
-own_in name [] family e = absurd (none-some family e)
-own_in name (one ∷ others) family e = step (bytes_eq (family_name one) name) refl e (own_in name others family)
+each_found : All IsFound written_families
+unfolding written_named
+each_found zero d l = refl
+each_found (suc zero) d l = refl
+each_found (suc (suc zero)) d l = refl
+each_found (suc (suc (suc zero))) d l = refl
+each_found (suc (suc (suc (suc zero)))) d l = refl
+each_found (suc (suc (suc (suc (suc zero))))) d l = refl
+each_found (suc (suc (suc (suc (suc (suc zero)))))) d l = refl
+each_found (suc (suc (suc (suc (suc (suc (suc zero))))))) d l = refl
+each_found (suc (suc (suc (suc (suc (suc (suc (suc zero)))))))) d l = refl
+each_found (suc (suc (suc (suc (suc (suc (suc (suc (suc k))))))))) d l = absurd (omega (arith, l))
+
+found : (family : Family) → Contains written_families family → written_named (family_name family) ≡ Some family
+found family there = All-contains IsFound written_families family each_found there
+
+own : (name : List ℕ) (family : Family) → written_named name ≡ Some family → family_name family ≡ name
+unfolding written_named
+own name family e = own_in name written_families family e
+
+among : {X : Type 0} (p : X → Bool) (xs : List X) (x : X) → find p xs ≡ Some x → Contains xs x
+among p [] x e = absurd (none-some x e)
+among p (y ∷ ys) x e = step (p y) e (among p ys x)
   where
-    step : (b : Bool) → bytes_eq (family_name one) name ≡ b
-        → cond b (Some one) (find (λ f. bytes_eq (family_name f) name) others) ≡ Some family
-        → (find (λ f. bytes_eq (family_name f) name) others ≡ Some family → family_name family ≡ name) → family_name family ≡ name
-    step true same e rest =
-        subst (λ f. family_name f ≡ name) (same_Some one family e) ((bytes_eq-Decides (family_name one) name).0 same)
-    step false other e rest = rest e
+    step : (b : Bool) → cond b (Some y) (find p ys) ≡ Some x → (find p ys ≡ Some x → Contains ys x) → Contains (y ∷ ys) x
+    step true same rest = (0, omega arith, same_Some y x same)
+    step false other rest = let k = rest other in (suc k.0, omega (arith, k.1), k.2)
 
-own : (name : List ℕ) (family : Family) → family_named name ≡ Some family → family_name family ≡ name
-unfolding family_named
-own name family e = own_in name all_families family e
+written : (name : List ℕ) (family : Family) → written_named name ≡ Some family → Contains written_families family
+unfolding written_named
+written name family e = among (λ f. bytes_eq (family_name f) name) written_families family e
 
 -- ---- the names of several
-back : (fs : List Family) → families_named (map family_name fs) ≡ Some fs
-back [] = refl
-back (f ∷ fs) =
-    ap (option_and_then (λ one. option_map (λ others. one ∷ others) (families_named (map family_name fs)))) (found f)
-    ∙ ap (option_map (λ others. f ∷ others)) (back fs)
+abbrev AreWritten : List Family → Type 0
+AreWritten fs = All (Contains written_families) fs
+
+back : (fs : List Family) → AreWritten fs → families_named (map family_name fs) ≡ Some fs
+back [] h = refl
+back (f ∷ fs) h =
+    ap (option_and_then (λ one. option_map (λ others. one ∷ others) (families_named (map family_name fs))))
+    (found f (All-head (Contains written_families) f fs h))
+    ∙ ap (option_map (λ others. f ∷ others)) (back fs (All-tail (Contains written_families) f fs h))
+
+abbrev Names : List (List ℕ) → List Family → Type 0
+Names ws fs = (ws ≡ map family_name fs) × AreWritten fs
 
 first_of : (w : List ℕ) (ws : List (List ℕ)) (fs : List Family)
-    → ((gs : List Family) → families_named ws ≡ Some gs → ws ≡ map family_name gs)
-    → (one : Option Family) → family_named w ≡ one → (others : Option (List Family)) → families_named ws ≡ others
-    → option_and_then (λ f. option_map (λ gs. f ∷ gs) others) one ≡ Some fs → w ∷ ws ≡ map family_name fs
+    → ((gs : List Family) → families_named ws ≡ Some gs → Names ws gs)
+    → (one : Option Family) → written_named w ≡ one → (others : Option (List Family)) → families_named ws ≡ others
+    → option_and_then (λ f. option_map (λ gs. f ∷ gs) others) one ≡ Some fs → Names (w ∷ ws) fs
 first_of w ws fs rest None is others are e = absurd (none-some fs e)
 first_of w ws fs rest (Some f) is None are e = absurd (none-some fs e)
 first_of w ws fs rest (Some f) is (Some gs) are e =
-    subst (λ hs. w ∷ ws ≡ map family_name hs) (same_Some (f ∷ gs) fs e)
-    (ap₂ (λ n ns. n ∷ ns) (sym (own w f is)) (rest gs are))
+    let named = rest gs are in
+    subst (Names (w ∷ ws)) (same_Some (f ∷ gs) fs e) (
+      ap₂ (λ n ns. n ∷ ns) (sym (own w f is)) named.0,
+      All-cons (Contains written_families) f gs (written w f is) named.1,
+    )
 
-names : (ws : List (List ℕ)) (fs : List Family) → families_named ws ≡ Some fs → ws ≡ map family_name fs
-names [] fs e = subst (λ hs. [] ≡ map family_name hs) (same_Some [] fs e) refl
+names : (ws : List (List ℕ)) (fs : List Family) → families_named ws ≡ Some fs → Names ws fs
+names [] fs e = subst (Names []) (same_Some [] fs e) (refl, All-nil (Contains written_families))
 names (w ∷ ws) fs e =
-    first_of w ws fs (λ gs. names ws gs) (family_named w) refl (families_named ws) refl e
+    first_of w ws fs (λ gs. names ws gs) (written_named w) refl (families_named ws) refl e
 
 -- ---- no two the same
 or_left : (a b : Bool) → a || b ≡ false → a ≡ false
@@ -108,7 +132,8 @@ told : (w : List ℕ) (ws : List (List ℕ)) (fs : List Family) (b : Bool) → d
     → (if b then families_named (w ∷ ws) else None) ≡ Some fs → IsAsked (w ∷ ws) fs
 told w ws fs true is e = record {
   some = omega arith;
-  named = names (w ∷ ws) fs e;
+  named = (names (w ∷ ws) fs e).0;
+  written = (names (w ∷ ws) fs e).1;
   each_once = apart (w ∷ ws) is;
 }
 told w ws fs false is e = absurd (none-some fs e)
@@ -121,4 +146,4 @@ pub told_asked : (words : List (List ℕ)) (fs : List Family) → IsAsked words 
 told_asked [] fs a = let some = a.some in absurd (omega arith)
 told_asked (w ∷ ws) fs a =
     ap (λ b. if b then families_named (w ∷ ws) else None) (differing (w ∷ ws) a.each_once)
-    ∙ ap families_named a.named ∙ back fs
+    ∙ ap families_named a.named ∙ back fs a.written

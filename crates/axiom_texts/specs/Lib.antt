@@ -1,4 +1,4 @@
 pub mod Asked
 pub mod LibraryText
-pub mod Names
+pub mod Written
 pub mod Outcomes

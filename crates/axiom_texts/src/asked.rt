@@ -4,7 +4,7 @@ ghost use Rattle.text_core.specs.Names.{is_among};
 ghost use Rattle.axiom_texts.specs.Asked as meant;
 ghost use Rattle.axiom_texts.specs.Asked.{families_asked_by, families_named};
 
-use crate::names::family_named;
+use crate::names::written_named;
 use axiom_library::Family;
 use items::{Items, NoMemory};
 use std::alloc::Global;
@@ -15,7 +15,7 @@ fn all_named(alloc: Global, words: &[&str]) -> Result<Option<Items<Family>>, NoM
 {
     let mut families = Items::new(alloc);
     for word in words {
-        let Some(family) = family_named(word.as_bytes()) else {
+        let Some(family) = written_named(word.as_bytes()) else {
             return Ok(None);
         };
         families.push(family)?;

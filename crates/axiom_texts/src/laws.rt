@@ -8,7 +8,8 @@ ghost use Rattle.axiom_library.specs.declared.families.Family.{Family as FamilyO
 ghost use Rattle.axiom_texts.specs.Asked.{IsAsked, asked_families};
 ghost use Rattle.axiom_texts.specs.LibraryText.{library_text, of_goals};
 
-/// Words ask for families exactly where they are these families' names in this order, one or more and no two the same.
+/// Words ask for families exactly where they are these families' names in this order, one or more and no two the same,
+/// and the program writes these families.
 pub fn words_name_families()
     ensures { (words : List (List ℕ)) (families : List FamilyOf)
         → (asked_families words ≡ Some families) ↔ IsAsked words families }

@@ -3,9 +3,10 @@
 //! Proved: `run` appends the text of the families that the words name, or the line `usage`, with status 0 or 2
 //! (`reply`, `usage`); nothing where memory is refused (`memory`), and a front of it after a counted failure, with
 //! status 7 (`sink_fault`, `writes`). No other status is given (`ends`). Words name families exactly where they are
-//! the names of these in this order, one or more and no two the same (`words_name_families`). In front of the
-//! canonical text of goals alone, what is written makes the canonical text of these goals with the axioms
-//! (`texts_stand_before_goals`). `worked_texts` says what some words ask for.
+//! the names of these in this order, one or more and no two the same, and these are of the nine families that the
+//! program writes (`words_name_families`). In front of the canonical text of goals alone, what is written makes the
+//! canonical text of these goals with the axioms (`texts_stand_before_goals`). `worked_texts` says what some words ask
+//! for.
 #![tactic(auto)]
 
 mod asked;

@@ -5,7 +5,7 @@ ghost use Rattle.axiom_texts.specs.Asked.{asked_families};
 ghost use Rattle.axiom_texts.specs.LibraryText as meant;
 
 /// Words are whole names, one or more of them and each once; the families' texts stand in the order of the words.
-#[tactic(auto, unfolding(crate::specs::Names::family_named))]
+#[tactic(auto, unfolding(crate::specs::Written::written_named))]
 pub fn worked_texts()
     ensures one { asked_families (codes "sums" ∷ []) ≡ Some (Sums ∷ []) }
     ensures in_order { asked_families (codes "rounding" ∷ codes "sums" ∷ []) ≡ Some (Rounding ∷ Sums ∷ []) }

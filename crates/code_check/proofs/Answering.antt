@@ -1,9 +1,10 @@
 -- What the check of a code comes to, from what its calls promise.
-use Rattle.std.proofs.Common.{◌≡◌, ℕ, zero, suc, ◌+◌, ◌-◌, ◌*◌, ◌<◌, ◌≤◌, ◌^◌, ◌∙◌, max, List, [], ◌∷◌, ◌++◌, map, length, get_or, Result, Ok, Err, Option, Some, None, refl, sym, ap, subst, arith}
+use Rattle.std.proofs.Common.{◌≡◌, ℕ, zero, suc, ◌+◌, ◌*◌, ◌<◌, ◌≤◌, ◌^◌, ◌∙◌, max, List, [], ◌∷◌, ◌++◌, map, length, get_or, Result, Ok, Err, Option, Some, None, refl, sym, ap, subst, arith}
 use Rattle.std.specs.Prelude.{All, Contains, IfOk, IfSome, MatchOption, slice_get}
 use Rattle.std.proofs.lemmas.List.{get_or-map, length-map, length_push}
 use Rattle.std.proofs.lemmas.List.Elements.{All-weaker, Contains-append_left, Contains-append_right, Contains-get_or}
 use Rattle.std.proofs.lemmas.Option.{slice_get_read, slice_get_within}
+use Rattle.axiom_library.specs.declared.libraries.Library.{Library}
 use Rattle.word_ops.specs.declared.sorts.Op.{Op}
 use Rattle.word_ops.specs.declared.sorts.Sort.{Sort}
 use Rattle.word_ops.specs.declared.sorts.Sort.TheVariants as sorts
@@ -134,43 +135,50 @@ as_many goal g lets zip =
 -- ---- answers for each input
 
 pub for_inputs :
-    {E : Type 0} (r : Result Verified E) (A B C : InputTree → Type 0) (Q : InputTree → Verified → Type 0) →
-    ((input : InputTree) → A input → B input → C input → IfOk r (Q input)) →
-    IfOk r (λ answer. (input : InputTree) → A input → B input → C input → Q input answer)
+    {E : Type 0} (r : Result Verified E) (A : InputTree → Type 0) (B : Library → InputTree → Type 0) (C : InputTree → Type 0) (Q : Library → InputTree → Verified → Type 0) →
+    ((library : Library) (input : InputTree) → A input → B library input → C input → IfOk r (Q library input)) →
+    IfOk r (λ answer. (library : Library) (input : InputTree) → A input → B library input → C input → Q library input answer)
 for_inputs (Ok x) A B C Q h = h
 for_inputs (Err e) A B C Q h = tt
 
+pub for_libraries :
+    {E : Type 0} (r : Result Verified E) (A : Library → Type 0) (Q : Library → Verified → Type 0) →
+    ((library : Library) → A library → IfOk r (Q library)) →
+    IfOk r (λ answer. (library : Library) → A library → Q library answer)
+for_libraries (Ok x) A Q h = h
+for_libraries (Err e) A Q h = tt
+
 -- ---- answers
 
-module _ (input : InputTree) (code : Code) (rounds nodes : ℕ) where
+module _ (input : InputTree) (code : Code) (rounds nodes : ℕ) (library : Library) where
   -- the goal of a place is the one that was taken from it
   pub for_the_goal :
       {E : Type 0} (goal : GoalTree) (r : Result Verified E) →
       slice_get input.goals code.goal ≡ Some goal →
-      IfOk r (IsRightFor input goal code rounds nodes) →
+      IfOk r (IsRightFor input goal code rounds nodes library) →
       IfOk r (λ answer.
-      (other : GoalTree) → slice_get input.goals code.goal ≡ Some other → IsRightFor input other code rounds nodes answer)
+      (other : GoalTree) → slice_get input.goals code.goal ≡ Some other → IsRightFor input other code rounds nodes library answer)
   for_the_goal goal (Ok x) there h = λ other is.
       let same : goal ≡ other = cc in
-      subst (λ (n : GoalTree). IsRightFor input n code rounds nodes x) same h
+      subst (λ (n : GoalTree). IsRightFor input n code rounds nodes library x) same h
   for_the_goal goal (Err e) there h = tt
 
   module _ (goal : GoalTree) (instrs : List Instr) (decode : map decoded code.words ≡ map Some instrs) where
     -- it is right for the instructions, and there are no others
-    pub for_the_code : {E : Type 0} (r : Result Verified E) → IfOk r (IsVerified input goal instrs code rounds nodes) → IfOk r (IsRightFor input goal code rounds nodes)
+    pub for_the_code : {E : Type 0} (r : Result Verified E) → IfOk r (IsVerified input goal instrs code rounds nodes library) → IfOk r (IsRightFor input goal code rounds nodes library)
     for_the_code (Ok x) h = λ others is.
-        subst (λ js. IsVerified input goal js code rounds nodes x) (map_same instrs others (sym decode ∙ is)) h
+        subst (λ js. IsVerified input goal js code rounds nodes library x) (map_same instrs others (sym decode ∙ is)) h
     for_the_code (Err e) h = tt
 
-    named : (a b x y : ℕ) → x ≡ a → y ≡ b → HasNoWorld input goal instrs rounds nodes a b → HasNoWorld input goal instrs rounds nodes x y
-    named a b x y e f h = subst (λ n. HasNoWorld input goal instrs rounds nodes n y) (sym e) (subst (HasNoWorld input goal instrs rounds nodes a) (sym f) h)
+    named : (a b x y : ℕ) → x ≡ a → y ≡ b → HasNoWorld input goal instrs rounds nodes library a b → HasNoWorld input goal instrs rounds nodes library x y
+    named a b x y e f h = subst (λ n. HasNoWorld input goal instrs rounds nodes library n y) (sym e) (subst (HasNoWorld input goal instrs rounds nodes library a) (sym f) h)
 
     low_class : (class c : ℕ) → class < 2 ^ 31 → c ≡ class → c < 2 ^ 31
     low_class class c low e = omega (arith, low, e)
 
     -- a refusal of the start
-    module _ (nowhere : (class a b : ℕ) → StartFaultIs goal (start_faults.NoWorld class a b) → IsHopelessAtStart goal (start_faults.NoWorld class a b) → HasNoWorld input goal instrs rounds nodes a b) where
-      at_start : (fault : StartFault) (answer : Verified) → StartFaultIs goal fault → IsHopelessAtStart goal fault → StartNamesLowClass fault → IsNoWorldAtStart fault answer → IsVerified input goal instrs code rounds nodes answer
+    module _ (nowhere : (class a b : ℕ) → StartFaultIs goal (start_faults.NoWorld class a b) → IsHopelessAtStart goal (start_faults.NoWorld class a b) → HasNoWorld input goal instrs rounds nodes library a b) where
+      at_start : (fault : StartFault) (answer : Verified) → StartFaultIs goal fault → IsHopelessAtStart goal fault → StartNamesLowClass fault → IsNoWorldAtStart fault answer → IsVerified input goal instrs code rounds nodes library answer
       at_start (start_faults.NoWorld class a b) (NoWorld c x y) h hopeless low e = (named a b x y e.1 e.2 (nowhere class a b h hopeless), low_class class c low e.0)
       at_start (start_faults.NoWorld class a b) Yes h hopeless low e = absurd e
       at_start (start_faults.NoWorld class a b) (Unknown j stop part) h hopeless low e = absurd e
@@ -182,20 +190,20 @@ module _ (input : InputTree) (code : Code) (rounds nodes : ℕ) where
           IsHopelessAtStart goal fault →
           StartNamesLowClass fault →
           IfOk r (IsNoWorldAtStart fault) →
-          IfOk r (IsVerified input goal instrs code rounds nodes)
+          IfOk r (IsVerified input goal instrs code rounds nodes library)
       start_refused fault (Ok x) h hopeless low e = at_start fault x h hopeless low e
       start_refused fault (Err x) h hopeless low e = tt
 
     -- a refusal of the rounds
     module _ (graph : Graph Op)
-        (nowhere : (class a b : ℕ) → IsImpossible (rules_of input) graph rounds nodes a b → IsHopeless (rules_of input) graph (round_faults.NoWorld class a b) → HasNoWorld input goal instrs rounds nodes a b) where
+        (nowhere : (class a b : ℕ) → IsImpossible (rules_of library input) graph rounds nodes a b → IsHopeless (rules_of library input) graph (round_faults.NoWorld class a b) → HasNoWorld input goal instrs rounds nodes library a b) where
       in_rounds :
           (fault : SaturateFault) (answer : Verified) →
-          SaturateFaultIs (rules_of input) graph rounds nodes fault →
-          IsHopeless (rules_of input) graph fault →
+          SaturateFaultIs (rules_of library input) graph rounds nodes fault →
+          IsHopeless (rules_of library input) graph fault →
           RoundsNameLowClass fault →
           IsNoWorldInRounds fault answer →
-          IsVerified input goal instrs code rounds nodes answer
+          IsVerified input goal instrs code rounds nodes library answer
       in_rounds (round_faults.NoWorld class a b) (NoWorld c x y) h hopeless low e = (named a b x y e.1 e.2 (nowhere class a b h hopeless), low_class class c low e.0)
       in_rounds (round_faults.NoWorld class a b) Yes h hopeless low e = absurd e
       in_rounds (round_faults.NoWorld class a b) (Unknown j stop part) h hopeless low e = absurd e
@@ -203,26 +211,26 @@ module _ (input : InputTree) (code : Code) (rounds nodes : ℕ) where
 
       pub rounds_refused :
           {E : Type 0} (fault : SaturateFault) (r : Result Verified E) →
-          SaturateFaultIs (rules_of input) graph rounds nodes fault →
-          IsHopeless (rules_of input) graph fault →
+          SaturateFaultIs (rules_of library input) graph rounds nodes fault →
+          IsHopeless (rules_of library input) graph fault →
           RoundsNameLowClass fault →
           IfOk r (IsNoWorldInRounds fault) →
-          IfOk r (IsVerified input goal instrs code rounds nodes)
+          IfOk r (IsVerified input goal instrs code rounds nodes library)
       rounds_refused fault (Ok x) h hopeless low e = in_rounds fault x h hopeless low e
       rounds_refused fault (Err x) h hopeless low e = tt
 
     -- what the comparison gives
-    module _ (g : Graph Op) (j : ℕ) (stop : Stop) (compared : IsCompared input goal instrs rounds nodes g j stop)
+    module _ (g : Graph Op) (j : ℕ) (stop : Stop) (compared : IsCompared input goal instrs rounds nodes library g j stop)
         (does : Same g (expanded goal) instrs code.places → DoesGoal input goal code.words code.places) where
       pub answered :
           (found : Option Part) (answer : Verified) →
           MatchOption found (Same g (expanded goal) instrs code.places) (IsFirstDifferent g (expanded goal) instrs code.places) →
           IsAnswerOf j stop found answer →
-          IsVerified input goal instrs code rounds nodes answer
+          IsVerified input goal instrs code rounds nodes library answer
       answered None answer same e =
-          subst (IsVerified input goal instrs code rounds nodes) (sym e)
+          subst (IsVerified input goal instrs code rounds nodes library) (sym e)
           (record { graph = g; round = j; stop = stop; compared = compared; same = same; does_goal = does same })
-      answered (Some part) answer differs e = subst (IsVerified input goal instrs code rounds nodes) (sym e) (g, compared, differs)
+      answered (Some part) answer differs e = subst (IsVerified input goal instrs code rounds nodes library) (sym e) (g, compared, differs)
 
 -- ---- room
 

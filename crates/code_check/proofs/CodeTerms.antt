@@ -161,7 +161,7 @@ classes_at_entry g is sorts_of classes memory e h = record {
 
 -- the memory at entry has a class at the start
 pub entry_there : (goal : GoalTree) (g : Graph Op) → StandsAtStart goal g → (c : ℕ) × IsClass g [] entry_term c
-entry_there goal g stands = (stands (λ n. []) []).classes entry_term (0, omega arith, refl)
+entry_there goal g stands = (stands (λ n. []) (record { axioms = []; kinds = [] })).classes entry_term (0, omega arith, refl)
 
 -- ---- after the rounds
 

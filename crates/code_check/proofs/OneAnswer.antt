@@ -1,6 +1,7 @@
 -- Two right answers to one code are one.
 use Rattle.std.proofs.Common.{◌≡◌, ℕ, suc, ◌<◌, ◌++◌, List, [], ◌∷◌, All, Option, Some, None, get_or, sym, ◌∙◌, subst, inl, inr, arith}
 use Rattle.std.proofs.lemmas.Bool.{cases_lt}
+use Rattle.axiom_library.specs.declared.libraries.Library.{Library}
 use Rattle.word_ops.specs.declared.sorts.Op.{Op}
 use Rattle.word_terms.specs.Keys.{op_signature}
 use Rattle.word_terms.specs.Tree.{Tree}
@@ -75,18 +76,18 @@ module _ {X : Type 0} (P Q : X → Type 0) (forth : (x : X) → P x → Q x) (ba
 
 -- ---- answers
 
-module _ (input : InputTree) (goal : GoalTree) (instrs : List Instr) (rounds nodes : ℕ) where
+module _ (input : InputTree) (goal : GoalTree) (instrs : List Instr) (rounds nodes : ℕ) (library : Library) where
   abbrev HaltsAt : ℕ → Type 0
-  HaltsAt j = Halts (rules_of input) (compared_terms goal instrs) (assumed_pairs goal) rounds nodes j
+  HaltsAt j = Halts (rules_of library input) (compared_terms goal instrs) (assumed_pairs goal) rounds nodes j
 
   abbrev Compared : Graph Op → ℕ → Stop → Type 0
-  Compared g j stop = IsCompared input goal instrs rounds nodes g j stop
+  Compared g j stop = IsCompared input goal instrs rounds nodes library g j stop
 
-  module _ (once : (i j : ℕ) → NotBefore (rules_of input) (compared_terms goal instrs) (assumed_pairs goal) rounds nodes j → i < j → Halts (rules_of input) (compared_terms goal instrs) (assumed_pairs goal) rounds nodes i → ⊥)
-      (ends : (g : Graph Op) (j : ℕ) (stop : Stop) → IsGraph op_signature g → IsGrown (rules_of input) (compared_terms goal instrs) (assumed_pairs goal) g j → StopIs (rules_of input) g rounds nodes j stop
-      → Halts (rules_of input) (compared_terms goal instrs) (assumed_pairs goal) rounds nodes j)
-      (alike : (g h : Graph Op) (j : ℕ) → IsGraph op_signature g → IsGraph op_signature h → IsGrown (rules_of input) (compared_terms goal instrs) (assumed_pairs goal) g j
-      → IsGrown (rules_of input) (compared_terms goal instrs) (assumed_pairs goal) h j → AreAlike g h) where
+  module _ (once : (i j : ℕ) → NotBefore (rules_of library input) (compared_terms goal instrs) (assumed_pairs goal) rounds nodes j → i < j → Halts (rules_of library input) (compared_terms goal instrs) (assumed_pairs goal) rounds nodes i → ⊥)
+      (ends : (g : Graph Op) (j : ℕ) (stop : Stop) → IsGraph op_signature g → IsGrown (rules_of library input) (compared_terms goal instrs) (assumed_pairs goal) g j → StopIs (rules_of library input) g rounds nodes j stop
+      → Halts (rules_of library input) (compared_terms goal instrs) (assumed_pairs goal) rounds nodes j)
+      (alike : (g h : Graph Op) (j : ℕ) → IsGraph op_signature g → IsGraph op_signature h → IsGrown (rules_of library input) (compared_terms goal instrs) (assumed_pairs goal) g j
+      → IsGrown (rules_of library input) (compared_terms goal instrs) (assumed_pairs goal) h j → AreAlike g h) where
     halts : (g : Graph Op) (j : ℕ) (stop : Stop) → Compared g j stop → HaltsAt j
     halts g j stop is = ends g j stop is.graph is.grown is.stops
 
@@ -102,16 +103,16 @@ module _ (input : InputTree) (goal : GoalTree) (instrs : List Instr) (rounds nod
     keeps : (g h : Graph Op) (j k : ℕ) (stop reason : Stop) → Compared g j stop → Compared h k reason → (t u : Tree Op) → HaveSameClass g t u → HaveSameClass h t u
     keeps g h j k stop reason first second t u same =
         (second.grown.exact t u).1
-        (subst (λ n. Derives (rules_of input) (compared_terms goal instrs) (assumed_pairs goal) n t u) (one_round g h j k stop reason first second) ((first.grown.exact t u).0 same))
+        (subst (λ n. Derives (rules_of library input) (compared_terms goal instrs) (assumed_pairs goal) n t u) (one_round g h j k stop reason first second) ((first.grown.exact t u).0 same))
 
     multiple : (g h : Graph Op) (j k : ℕ) (stop reason : Stop) → Compared g j stop → Compared h k reason → (t : Tree Op) (n : ℕ) → IsMultipleTerm g t n → IsMultipleTerm h t n
     multiple g h j k stop reason first second =
         let one = one_round g h j k stop reason first second in
         multiple_kept g h first.graph second.graph
-        (alike g h k first.graph second.graph (subst (λ n. IsGrown (rules_of input) (compared_terms goal instrs) (assumed_pairs goal) g n) one first.grown) second.grown)
+        (alike g h k first.graph second.graph (subst (λ n. IsGrown (rules_of library input) (compared_terms goal instrs) (assumed_pairs goal) g n) one first.grown) second.grown)
         (λ t same. keeps g h j k stop reason first second t t same)
 
-    no_clash : (g : Graph Op) (j : ℕ) (stop : Stop) → Compared g j stop → (a b : ℕ) → HasNoWorld input goal instrs rounds nodes a b → ⊥
+    no_clash : (g : Graph Op) (j : ℕ) (stop : Stop) → Compared g j stop → (a b : ℕ) → HasNoWorld input goal instrs rounds nodes library a b → ⊥
     no_clash g j stop is a b none = elim (cases_lt j none.round) [
       | inl lt ↦ once j none.round none.reached.1 lt (halts g j stop is)
       | inr le ↦ is.no_clash none.round a b le none.clash
@@ -129,7 +130,7 @@ module _ (input : InputTree) (goal : GoalTree) (instrs : List Instr) (rounds nod
           (same_part g h (keeps g h j k stop reason first second) (multiple g h j k stop reason first second) (expanded goal) instrs code.places) (same_part h g (keeps h g k j reason stop second first) (multiple h g k j reason stop second first) (expanded goal) instrs code.places)
           different.before different.behind part also.before also.behind other (sym different.order ∙ also.order) different.same different.differs also.same also.differs
 
-      pub one_answer : (x y : Verified) → IsVerified input goal instrs code rounds nodes x → IsVerified input goal instrs code rounds nodes y → AreOneAnswer x y
+      pub one_answer : (x y : Verified) → IsVerified input goal instrs code rounds nodes library x → IsVerified input goal instrs code rounds nodes library y → AreOneAnswer x y
       one_answer Yes Yes right other = tt
       one_answer Yes (Unknown j stop part) right other = none_differs right.graph other.0 right.round j right.stop stop part right.compared other.1 right.same other.2
       one_answer Yes (NoWorld class a b) right other = no_clash right.graph right.round right.stop right.compared a b other.0

@@ -6,6 +6,7 @@ use Rattle.std.proofs.lemmas.List.{flat_map_more, get_or_at, length-map}
 use Rattle.std.proofs.lemmas.List.Elements.{All-append, All-cons, All-get_or, All-map, All-nil}
 use Rattle.std.proofs.lemmas.List.Folds.{list_any-append}
 use Rattle.text_core.specs.LineTexts.{Words, line_text, lines_text}
+use Rattle.axiom_library.specs.declared.libraries.Library.{Library}
 use Rattle.alpha_encode.specs.declared.instructions.Instr.{Instr}
 use Rattle.goal_meaning.specs.Expanded.{expanded, expanded_target, let_terms}
 use Rattle.goal_meaning.specs.Outcomes.{is_memory}
@@ -69,16 +70,16 @@ of_goal goal parts.Exit h = h
 of_goal goal (parts.Set i) h = subst (λ n. i < n) (length-map goal.sets (expanded_target (let_terms goal))) h
 of_goal goal parts.Memory h = h
 
-pub can_be_said : (input : InputTree) (goal : GoalTree) (instrs : List Instr) (code : Code) (rounds nodes : ℕ) (answer : Verified) → IsVerified input goal instrs code rounds nodes answer → CanBeSaid goal answer
-can_be_said input goal instrs code rounds nodes Yes h = tt
-can_be_said input goal instrs code rounds nodes (Unknown j stop part) h =
+pub can_be_said : (input : InputTree) (goal : GoalTree) (instrs : List Instr) (code : Code) (rounds nodes : ℕ) (library : Library) (answer : Verified) → IsVerified input goal instrs code rounds nodes library answer → CanBeSaid goal answer
+can_be_said input goal instrs code rounds nodes library Yes h = tt
+can_be_said input goal instrs code rounds nodes library (Unknown j stop part) h =
     (let d = h.2 in of_goal goal part (middle (IsPartOf (expanded goal)) (compared_parts (expanded goal) instrs) d.before d.behind part d.order (parts_are (expanded goal) instrs)))
-can_be_said input goal instrs code rounds nodes (NoWorld class a b) h = tt
+can_be_said input goal instrs code rounds nodes library (NoWorld class a b) h = tt
 
 -- ---- one more line
 
-module _ (input : InputTree) (rounds nodes : ℕ) where
-  pub reply_is : (code : Code) (answer : Verified) (of : IsCodeOf input code) → ((goal : GoalTree) → slice_get input.goals code.goal ≡ Some goal → IsRightFor input goal code rounds nodes answer) → IsReplyTo input rounds nodes code answer
+module _ (input : InputTree) (rounds nodes : ℕ) (library : Library) where
+  pub reply_is : (code : Code) (answer : Verified) (of : IsCodeOf input code) → ((goal : GoalTree) → slice_get input.goals code.goal ≡ Some goal → IsRightFor input goal code rounds nodes library answer) → IsReplyTo input rounds nodes library code answer
   reply_is code answer of right = record {
     goal = of.goal;
     of_goal = of.of_goal;
@@ -87,25 +88,25 @@ module _ (input : InputTree) (rounds nodes : ℕ) where
     right = right of.goal of.of_goal of.fits.instrs of.fits.is_code.decode;
   }
 
-  replies_more : (codes : List Code) (answers : List Verified) (code : Code) (answer : Verified) → AreReplies input rounds nodes codes answers → IsReplyTo input rounds nodes code answer → AreReplies input rounds nodes (codes ++ code ∷ []) (answers ++ answer ∷ [])
+  replies_more : (codes : List Code) (answers : List Verified) (code : Code) (answer : Verified) → AreReplies input rounds nodes library codes answers → IsReplyTo input rounds nodes library code answer → AreReplies input rounds nodes library (codes ++ code ∷ []) (answers ++ answer ∷ [])
   replies_more _ _ code answer none r = one_more r none
   replies_more _ _ code answer (one_more {codes = cs} {answers = rest} one others) r = one_more one (replies_more cs rest code answer others r)
 
-  lines_more : (codes : List Code) (answers : List Verified) (code : Code) (answer : Verified) → AreReplies input rounds nodes codes answers
+  lines_more : (codes : List Code) (answers : List Verified) (code : Code) (answer : Verified) → AreReplies input rounds nodes library codes answers
       → reply_lines input.goals (codes ++ code ∷ []) (answers ++ answer ∷ []) ≡ reply_lines input.goals codes answers ++ code_words input.goals code answer ∷ []
   lines_more _ _ code answer none = refl
   lines_more _ _ code answer (one_more {code = c} {codes = cs} {answer = a} {answers = rest} one others) = ap (λ ls. code_words input.goals c a ∷ ls) (lines_more cs rest code answer others)
 
-  pub nothing_said : AreSaid input rounds nodes [] [] false false
+  pub nothing_said : AreSaid input rounds nodes library [] [] false false
   nothing_said = record { answers = []; each = none; printed = refl; some_unknown = refl; some_no_world = refl }
 
   any_more : (p : Verified → Bool) (answers : List Verified) (answer : Verified) (b : Bool) → b ≡ list_any p answers → b || p answer ≡ list_any p (answers ++ answer ∷ [])
   any_more p answers answer b e =
       ap (λ c. c || p answer) e ∙ sym (list_any-append p answers (answer ∷ []) ∙ ap (λ c. list_any p answers || c) (or_false (p answer)))
 
-  pub said_more : (codes : List Code) (bytes : List ℕ) (unknown no_world : Bool) (code : Code) (answer : Verified) (goal : GoalTree) → AreSaid input rounds nodes codes bytes unknown no_world
-      → IsReplyTo input rounds nodes code answer → slice_get input.goals code.goal ≡ Some goal
-      → AreSaid input rounds nodes (codes ++ code ∷ []) (bytes ++ line_text (reply_words goal answer)) (unknown || is_unknown answer) (no_world || is_no_world answer)
+  pub said_more : (codes : List Code) (bytes : List ℕ) (unknown no_world : Bool) (code : Code) (answer : Verified) (goal : GoalTree) → AreSaid input rounds nodes library codes bytes unknown no_world
+      → IsReplyTo input rounds nodes library code answer → slice_get input.goals code.goal ≡ Some goal
+      → AreSaid input rounds nodes library (codes ++ code ∷ []) (bytes ++ line_text (reply_words goal answer)) (unknown || is_unknown answer) (no_world || is_no_world answer)
   said_more codes bytes unknown no_world code answer goal said reply there =
       let line : reply_words goal answer ≡ code_words input.goals code answer = sym (ap (λ o. option_map_or (λ (g : GoalTree). reply_words g answer) o []) there) in
       record {

@@ -3,6 +3,7 @@ use Rattle.std.specs.Prelude.{Bool, true, false, ℕ, ◌≡◌, ◌<◌, List, 
 use Rattle.std.specs.List.{list_any}
 use Rattle.std.specs.Option.{option_map_or}
 use Rattle.text_core.specs.LineTexts.{Words, lines_text}
+use Rattle.axiom_library.specs.declared.libraries.Library.{Library}
 use Rattle.alpha_encode.specs.Decoded.{decoded}
 use Rattle.alpha_encode.specs.declared.instructions.Instr.{Instr}
 use Rattle.goal_meaning.specs.Views.{GoalTree, InputTree, TargetTree}
@@ -66,31 +67,34 @@ CanBeSaid goal (Unknown j stop part) = IsPartOf goal part
 CanBeSaid goal _ = Unit {0}
 
 -- the answer to a code is right
-pub record IsReplyTo (input : InputTree) (rounds nodes : ℕ) (code : Code) (answer : Verified) : Type 0 where
+pub record IsReplyTo (input : InputTree) (rounds nodes : ℕ) (library : Library) (code : Code) (answer : Verified) :
+    Type 0 where
   pub goal : GoalTree
   pub of_goal : slice_get input.goals code.goal ≡ Some goal
   pub instrs : List Instr
   pub decode : map decoded code.words ≡ map Some instrs
-  pub right : IsVerified input goal instrs code rounds nodes answer
+  pub right : IsVerified input goal instrs code rounds nodes library answer
 
 -- an answer to each of the codes, in order
-pub data AreReplies (input : InputTree) (rounds nodes : ℕ) : List Code → List Verified → Type 0 where
-  none : AreReplies input rounds nodes [] []
+pub data AreReplies (input : InputTree) (rounds nodes : ℕ) (library : Library) :
+    List Code → List Verified → Type 0 where
+  none : AreReplies input rounds nodes library [] []
   one_more : {code : Code} {codes : List Code} {answer : Verified} {answers : List Verified}
-      → IsReplyTo input rounds nodes code answer → AreReplies input rounds nodes codes answers
-      → AreReplies input rounds nodes (code ∷ codes) (answer ∷ answers)
+      → IsReplyTo input rounds nodes library code answer → AreReplies input rounds nodes library codes answers
+      → AreReplies input rounds nodes library (code ∷ codes) (answer ∷ answers)
 
 -- a line for each of the codes, with an answer that is right, and whether some are unknown or in no world
-pub record AreSaid (input : InputTree) (rounds nodes : ℕ) (codes : List Code) (bytes : List ℕ) (unknown no_world : Bool) :
-    Type 0 where
+pub record AreSaid (input : InputTree) (rounds nodes : ℕ) (library : Library) (codes : List Code) (bytes : List ℕ)
+    (unknown no_world : Bool) : Type 0 where
   pub answers : List Verified
-  pub each : AreReplies input rounds nodes codes answers
+  pub each : AreReplies input rounds nodes library codes answers
   pub printed : bytes ≡ lines_text (reply_lines input.goals codes answers)
   pub some_unknown : unknown ≡ list_any is_unknown answers
   pub some_no_world : no_world ≡ list_any is_no_world answers
 
 -- what is told of a text: what is said of its codes
-pub record IsTold (text : List ℕ) (rounds nodes : ℕ) (bytes : List ℕ) (unknown no_world : Bool) : Type 0 where
+pub record IsTold (text : List ℕ) (rounds nodes : ℕ) (library : Library) (bytes : List ℕ) (unknown no_world : Bool) :
+    Type 0 where
   pub checked : CheckedTree
   pub reads : ReadsCodes text checked
-  pub said : AreSaid checked.input rounds nodes checked.codes bytes unknown no_world
+  pub said : AreSaid checked.input rounds nodes library checked.codes bytes unknown no_world

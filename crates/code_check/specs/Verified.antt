@@ -6,6 +6,7 @@ use Rattle.word_ops.specs.declared.sorts.Op.{Op}
 use Rattle.word_terms.specs.Keys.{op_signature}
 use Rattle.word_terms.specs.Tree.{Tree}
 use Rattle.egraph.specs.Graph.{Graph, IsGraph}
+use Rattle.axiom_library.specs.declared.libraries.Library.{Library}
 use Rattle.alpha_encode.specs.Decoded.{decoded}
 use Rattle.alpha_encode.specs.declared.instructions.Instr.{Instr}
 use Rattle.goal_meaning.specs.Expanded.{expanded}
@@ -28,56 +29,59 @@ abbrev pub compared_terms : GoalTree → List Instr → List (Tree Op)
 compared_terms goal instrs = present_terms goal ++ written_terms instrs
 
 -- the rounds that are asked for don't end before round j
-abbrev pub ReachesRound : InputTree → GoalTree → List Instr → ℕ → ℕ → ℕ → Type 0
-ReachesRound input goal instrs rounds nodes j =
-    (j ≤ rounds) × NotBefore (rules_of input) (compared_terms goal instrs) (assumed_pairs goal) rounds nodes j
+abbrev pub ReachesRound : InputTree → GoalTree → List Instr → ℕ → ℕ → Library → ℕ → Type 0
+ReachesRound input goal instrs rounds nodes library j =
+    (j ≤ rounds) × NotBefore (rules_of library input) (compared_terms goal instrs) (assumed_pairs goal) rounds nodes j
 
 -- j rounds make these constants equal, which differ
-abbrev pub IsClashOf : InputTree → GoalTree → List Instr → ℕ → ℕ → ℕ → Type 0
-IsClashOf input goal instrs j a b = IsClash (rules_of input) (compared_terms goal instrs) (assumed_pairs goal) j a b
+abbrev pub IsClashOf : InputTree → GoalTree → List Instr → Library → ℕ → ℕ → ℕ → Type 0
+IsClashOf input goal instrs library j a b =
+    IsClash (rules_of library input) (compared_terms goal instrs) (assumed_pairs goal) j a b
 
 -- The graph of these terms after as many rounds as are asked for, or the first after which no match is unmet or another
 -- round might pass the limit on rows. No two different constants are equal in it.
-pub record IsCompared (input : InputTree) (goal : GoalTree) (instrs : List Instr) (rounds nodes : ℕ) (g : Graph Op)
-    (j : ℕ) (stop : Stop) : Type 0 where
+pub record IsCompared (input : InputTree) (goal : GoalTree) (instrs : List Instr) (rounds nodes : ℕ)
+    (library : Library) (g : Graph Op) (j : ℕ) (stop : Stop) : Type 0 where
   pub graph : IsGraph op_signature g
-  pub grown : IsGrown (rules_of input) (compared_terms goal instrs) (assumed_pairs goal) g j
-  pub reached : ReachesRound input goal instrs rounds nodes j
-  pub stops : StopIs (rules_of input) g rounds nodes j stop
-  pub no_clash : (i a b : ℕ) → i ≤ j → ¬ IsClashOf input goal instrs i a b
+  pub grown : IsGrown (rules_of library input) (compared_terms goal instrs) (assumed_pairs goal) g j
+  pub reached : ReachesRound input goal instrs rounds nodes library j
+  pub stops : StopIs (rules_of library input) g rounds nodes j stop
+  pub no_clash : (i a b : ℕ) → i ≤ j → ¬ IsClashOf input goal instrs library i a b
 
 -- two different constants are equal after a round that is reached, and so axioms and assumptions hold in no world
-pub record HasNoWorld (input : InputTree) (goal : GoalTree) (instrs : List Instr) (rounds nodes a b : ℕ) : Type 0 where
+pub record HasNoWorld (input : InputTree) (goal : GoalTree) (instrs : List Instr) (rounds nodes : ℕ)
+    (library : Library) (a b : ℕ) : Type 0 where
   pub round : ℕ
-  pub reached : ReachesRound input goal instrs rounds nodes round
-  pub clash : IsClashOf input goal instrs round a b
+  pub reached : ReachesRound input goal instrs rounds nodes library round
+  pub clash : IsClashOf input goal instrs library round a b
   pub nowhere : (world : World) → IsWorld world → HoldsFor input goal world → ⊥
 
 -- the code is the goal: they are the same in the graph, and so the words have the goal's outcome in each world
-pub record IsYes (input : InputTree) (goal : GoalTree) (instrs : List Instr) (code : Code) (rounds nodes : ℕ) : Type 0 where
+pub record IsYes (input : InputTree) (goal : GoalTree) (instrs : List Instr) (code : Code) (rounds nodes : ℕ)
+    (library : Library) : Type 0 where
   pub graph : Graph Op
   pub round : ℕ
   pub stop : Stop
-  pub compared : IsCompared input goal instrs rounds nodes graph round stop
+  pub compared : IsCompared input goal instrs rounds nodes library graph round stop
   pub same : Same graph (expanded goal) instrs code.places
   pub does_goal : DoesGoal input goal code.words code.places
 
 -- an answer that is right
-abbrev pub IsVerified : InputTree → GoalTree → List Instr → Code → ℕ → ℕ → Verified → Type 0
-IsVerified input goal instrs code rounds nodes Yes = IsYes input goal instrs code rounds nodes
-IsVerified input goal instrs code rounds nodes (Unknown j stop part) =
+abbrev pub IsVerified : InputTree → GoalTree → List Instr → Code → ℕ → ℕ → Library → Verified → Type 0
+IsVerified input goal instrs code rounds nodes library Yes = IsYes input goal instrs code rounds nodes library
+IsVerified input goal instrs code rounds nodes library (Unknown j stop part) =
     (g : Graph Op)
-    × IsCompared input goal instrs rounds nodes g j stop
+    × IsCompared input goal instrs rounds nodes library g j stop
     × IsFirstDifferent g (expanded goal) instrs code.places part
-IsVerified input goal instrs code rounds nodes (NoWorld class a b) =
-    HasNoWorld input goal instrs rounds nodes a b × (class < 2 ^ 31)
+IsVerified input goal instrs code rounds nodes library (NoWorld class a b) =
+    HasNoWorld input goal instrs rounds nodes library a b × (class < 2 ^ 31)
 
 -- it is right for the code's instructions
-abbrev pub IsRightFor : InputTree → GoalTree → Code → ℕ → ℕ → Verified → Type 0
-IsRightFor input goal code rounds nodes answer =
+abbrev pub IsRightFor : InputTree → GoalTree → Code → ℕ → ℕ → Library → Verified → Type 0
+IsRightFor input goal code rounds nodes library answer =
     (instrs : List Instr) →
     map decoded code.words ≡ map Some instrs →
-    IsVerified input goal instrs code rounds nodes answer
+    IsVerified input goal instrs code rounds nodes library answer
 
 -- two answers of one kind; and where they are unknown, after one number of rounds and for one part
 abbrev pub AreOneAnswer : Verified → Verified → Type 0

@@ -12,6 +12,7 @@ ghost use Rattle.goal_meaning.specs.Names.{declared_name};
 ghost use Rattle.goal_meaning.specs.Views.{GoalTree, InputTree};
 ghost use Rattle.goal_meaning.specs.WellFormed.{IsInput, IsGoal};
 ghost use Rattle.text_core.specs.declared.faults.Kind.{Kind as FaultKind};
+ghost use Rattle.axiom_library.specs.declared.libraries.Library.{Library};
 ghost use Rattle.saturation.specs.AtStart.{IsGrownAtStart, IsHopelessAtStart, IsSorted, StandsAtStart, StartFaultIs};
 ghost use Rattle.saturation.specs.GoalTerms.{assumed_pairs, kept_terms, rules_of};
 ghost use Rattle.saturation.specs.GraphStands.{GraphStands};
@@ -72,9 +73,9 @@ pub fn terms_are_what_words_compute()
 /// have the goal's outcome in each world in which axioms and assumptions hold. So they don't trap there.
 pub fn same_code_does_the_goal()
     ensures does_goal { (input : InputTree) (goal : GoalTree) (words : List ℕ) (instrs : List Instr) (places : List Place)
-        (terms : List (Tree TermOperator)) (graph : Graph TermOperator) →
+        (terms : List (Tree TermOperator)) (graph : Graph TermOperator) (library : Library) →
         IsInput input → IsGoal input.ops goal → IsCode words instrs → length words < 2 ^ 29 → All (λ p. p.reg < 31) places →
-        GraphStands (declared_name input.ops) (rules_of input) (assumed_pairs goal) terms graph →
+        GraphStands (declared_name input.ops) (rules_of library input) (assumed_pairs goal) terms graph →
         Same graph (expanded goal) instrs places →
         DoesGoal input goal words places }
 {
@@ -95,25 +96,29 @@ pub fn written_terms_are_sorted()
 /// inserted, is after the rounds the one in which the parts are compared, and stands; and where the start or the rounds
 /// are refused, so are those over these terms.
 pub fn compared_graphs_decide()
-    ensures compared { (input : InputTree) (goal : GoalTree) (instrs : List Instr) (rounds nodes j : ℕ) (stop : StopCause)
-        (first inserted last : Graph TermOperator) → IsGraph op_signature first → IsGrownAtStart goal first →
+    ensures compared { (input : InputTree) (goal : GoalTree) (instrs : List Instr) (rounds nodes : ℕ)
+        (library : Library) (j : ℕ) (stop : StopCause) (first inserted last : Graph TermOperator) →
+        IsGraph op_signature first → IsGrownAtStart goal first →
         AreInserted (written_terms instrs) first inserted →
-        IsSaturated (rules_of input) inserted rounds nodes last j stop → j ≤ rounds →
-        IsCompared input goal instrs rounds nodes last j stop }
-    ensures stand { (input : InputTree) (goal : GoalTree) (instrs : List Instr) (first inserted last : Graph TermOperator) →
+        IsSaturated (rules_of library input) inserted rounds nodes last j stop → j ≤ rounds →
+        IsCompared input goal instrs rounds nodes library last j stop }
+    ensures stand { (input : InputTree) (goal : GoalTree) (instrs : List Instr) (library : Library)
+        (first inserted last : Graph TermOperator) →
         IsGraph op_signature first → StandsAtStart goal first → All IsWellFormed instrs →
-        AreInserted (written_terms instrs) first inserted → KeepsStanding (rules_of input) inserted last →
-        GraphStands (declared_name input.ops) (rules_of input) (assumed_pairs goal)
+        AreInserted (written_terms instrs) first inserted → KeepsStanding (rules_of library input) inserted last →
+        GraphStands (declared_name input.ops) (rules_of library input) (assumed_pairs goal)
         (kept_terms goal ++ written_terms instrs) last }
-    ensures start { (input : InputTree) (goal : GoalTree) (instrs : List Instr) (rounds nodes class a b : ℕ) →
+    ensures start { (input : InputTree) (goal : GoalTree) (instrs : List Instr) (rounds nodes : ℕ) (library : Library)
+        (class a b : ℕ) →
         IsInput input → StartFaultIs goal (start_no_world class a b) → IsHopelessAtStart goal (start_no_world class a b) →
-        HasNoWorld input goal instrs rounds nodes a b }
-    ensures round { (input : InputTree) (goal : GoalTree) (instrs : List Instr) (rounds nodes a b class : ℕ)
-        (first inserted : Graph TermOperator) → IsInput input → IsGraph op_signature first → IsGrownAtStart goal first →
+        HasNoWorld input goal instrs rounds nodes library a b }
+    ensures round { (input : InputTree) (goal : GoalTree) (instrs : List Instr) (rounds nodes : ℕ) (library : Library)
+        (a b class : ℕ) (first inserted : Graph TermOperator) → IsInput input → IsGraph op_signature first →
+        IsGrownAtStart goal first →
         StandsAtStart goal first → All IsWellFormed instrs → AreInserted (written_terms instrs) first inserted →
-        IsImpossible (rules_of input) inserted rounds nodes a b →
-        IsHopeless (rules_of input) inserted (round_no_world class a b) →
-        HasNoWorld input goal instrs rounds nodes a b }
+        IsImpossible (rules_of library input) inserted rounds nodes a b →
+        IsHopeless (rules_of library input) inserted (round_no_world class a b) →
+        HasNoWorld input goal instrs rounds nodes library a b }
 {
     written_terms_are_sorted();
     more_terms_may_be_inserted();
@@ -124,9 +129,10 @@ pub fn compared_graphs_decide()
 /// Does nothing. Its clause is a law: two right answers to one code are of one kind, and where they are unknown, they are
 /// so after one number of rounds and for one part.
 pub fn codes_have_one_answer()
-    ensures one { (input : InputTree) (goal : GoalTree) (code : CheckedCode) (rounds nodes : ℕ) (x y : Answer) →
-        IsInput input → FitsGoal goal code → IsRightFor input goal code rounds nodes x →
-        IsRightFor input goal code rounds nodes y → AreOneAnswer x y }
+    ensures one { (input : InputTree) (goal : GoalTree) (code : CheckedCode) (rounds nodes : ℕ) (library : Library)
+        (x y : Answer) →
+        IsInput input → FitsGoal goal code → IsRightFor input goal code rounds nodes library x →
+        IsRightFor input goal code rounds nodes library y → AreOneAnswer x y }
 {
     axioms_make_rules_true();
     rounds_end_once();

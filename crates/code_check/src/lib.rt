@@ -8,10 +8,11 @@
 //! fault (`fault`, `refused`); a text has one reading (`codes_have_one_reading`). `verify` gives a right answer
 //! (`right`), and two right answers on a code say the same: `yes`, `unknown` with one number of rounds and one
 //! part, or `noworld` (`codes_have_one_answer`). `Yes` is right where the graph of the goal's terms and of those that
-//! the words write shows each address on which a word might trap to be a multiple of its width, and guard, exit, targets
-//! and memory are the same in it; then the words have the goal's outcome in every world in which axioms and assumptions
-//! hold, and don't trap on the way. `NoWorld` is right where two different constants are equal
-//! after a round that is reached. `verify_text` gives a line for each code (`told`). Laws:
+//! the words write shows each address on which a word might trap to be a multiple of its width, and guard, exit,
+//! targets and memory are the same in it; then the words have the goal's outcome in every world in which the text's
+//! axioms and the goal's assumptions hold, and don't trap on the way. The rules of a library, which may join those of
+//! the text, ask nothing of a world. `NoWorld` is right where two different constants are equal after a round that is
+//! reached. `verify_text` gives a line for each code (`told`). Laws:
 //! `terms_are_what_words_compute`, `same_code_does_the_goal`, `compared_graphs_decide`, `written_terms_are_sorted`.
 #![tactic(auto)]
 

@@ -5,7 +5,6 @@ ghost use Rattle.text_core.specs.LineTexts.{line_text};
 ghost use Rattle.text_core.specs.declared.faults.Kind.{Kind as FaultKind};
 ghost use Rattle.goal_meaning.specs.Views.{goal_view, input_view};
 ghost use Rattle.goal_meaning.specs.WellFormed.{IsInput};
-ghost use Rattle.saturation.specs.GoalTerms.{rules_of};
 ghost use Rattle.code_check.specs.CodeGrammar.{IsFirstCodesFault};
 ghost use Rattle.code_check.specs.Codes.{IsCodeOf};
 ghost use Rattle.code_check.specs.Replies as format;
@@ -15,10 +14,11 @@ ghost use Rattle.code_check.specs.declared.codes.Verified.TheVariants as answers
 use crate::codes::{Code, Part, Verified};
 use crate::reading::read;
 use crate::verifying::verify_by_rules;
+use axiom_library::Library;
 use goal_meaning::{Goal, Input};
 use graph_meaning::Stop;
 use items::{Items, NoMemory};
-use saturation::{Rules, rules};
+use saturation::rules;
 use std::alloc::Global;
 use text_core::{TextFault, put, put_number, put_word};
 
@@ -162,28 +162,29 @@ fn or_no_world(before: bool, answer: Verified) -> bool
     before || is_no_world(answer)
 }
 
+/// A line for each code of an input. The rules are made once.
 fn tell(
     alloc: Global,
     input: &Input,
-    rules: &Rules,
     codes: &[Code],
     rounds: u32,
     nodes: u32,
+    library: Library,
 ) -> Result<Told, NoMemory>
     requires input { IsInput (input_view input.now) }
-    requires rules { rules.now.program ≡ rules_of (input_view input.now) }
     requires codes { All (IsCodeOf (input_view input.now)) codes.now }
     requires rounds { rounds ≤ 16 }
     requires nodes { nodes ≤ 4096 }
-    ensures said { IfOk result (λ told. AreSaid (input_view input.now) rounds nodes codes.now told.bytes told.unknown
-        told.noworld) }
+    ensures said { IfOk result (λ told. AreSaid (input_view input.now) rounds nodes library codes.now told.bytes
+        told.unknown told.noworld) }
 {
+    let rules = rules(alloc, input, library)?;
     let mut bytes = Vec::new(alloc);
     let mut unknown = false;
     let mut noworld = false;
     for index in 0..codes.len() {
         let code = &codes[index];
-        let answer = verify_by_rules(alloc, input, rules, code, rounds, nodes)?;
+        let answer = verify_by_rules(alloc, input, &rules, code, rounds, nodes)?;
         let at = code.goal;
         let goal = &input.goals.as_slice()[at as usize];
         put_reply(&mut bytes, goal, answer)?;
@@ -197,14 +198,20 @@ fn tell(
     })
 }
 
-/// A line for each code of a text. The rules are made once.
-pub fn verify_text(alloc: Global, bytes: &[u8], rounds: u32, nodes: u32) -> Result<Told, TextFault>
+/// A line for each code of a text.
+pub fn verify_text(
+    alloc: Global,
+    bytes: &[u8],
+    rounds: u32,
+    nodes: u32,
+    library: Library,
+) -> Result<Told, TextFault>
     requires small { length bytes.now < 2 ^ 29 }
     requires rounds { rounds ≤ 16 }
     requires nodes { (1 ≤ nodes) × (nodes ≤ 4096) }
 
     // Each code has a line with an answer that is right.
-    ensures told { IfOk result (λ told. IsTold bytes.now rounds nodes told.bytes told.unknown told.noworld) }
+    ensures told { IfOk result (λ told. IsTold bytes.now rounds nodes library told.bytes told.unknown told.noworld) }
 
     // A fault is the text's first one, and where there is one, it is answered.
     ensures fault { IfErr result (IsFaultBy (IsFirstCodesFault bytes.now)) }
@@ -212,8 +219,7 @@ pub fn verify_text(alloc: Global, bytes: &[u8], rounds: u32, nodes: u32) -> Resu
         → RefusesUnlessMemory place kind result }
 {
     let checked = read(alloc, bytes)?;
-    let rules = rules(alloc, &checked.input)?;
     let codes = checked.codes.as_slice();
-    let told = tell(alloc, &checked.input, &rules, codes, rounds, nodes)?;
+    let told = tell(alloc, &checked.input, codes, rounds, nodes, library)?;
     Ok(told)
 }

@@ -9,6 +9,7 @@ ghost use Rattle.alpha_encode.specs.Decoded.{decoded};
 ghost use Rattle.alpha_encode.specs.declared.instructions.Instr.{Instr};
 ghost use Rattle.goal_meaning.specs.Views.{GoalTree, InputTree, goal_view, input_view};
 ghost use Rattle.goal_meaning.specs.WellFormed.{IsGoal, IsInput};
+ghost use Rattle.axiom_library.specs.declared.libraries.Library.{Library as LibraryOf};
 ghost use Rattle.saturation.specs.AtStart.{IsGrownAtStart, StandsAtStart};
 ghost use Rattle.saturation.specs.GoalTerms.{rules_of};
 ghost use Rattle.code_check.specs.Answers.{IsAnswerOf, IsGoalBelow, IsNoWorldAtStart, IsNoWorldInRounds};
@@ -25,6 +26,7 @@ use crate::codes::{At, Code, Part, Verified};
 use crate::comparing::{first_different_target, is_same_guard, is_same_leaving, is_same_memory};
 use crate::laws::{compared_graphs_decide, same_code_does_the_goal, written_terms_are_sorted};
 use crate::trapping::first_trap;
+use axiom_library::Library;
 use egraph::{Egraph, rows_name_present_classes};
 use goal_meaning::{Goal, Input};
 use graph_meaning::Stop;
@@ -145,8 +147,9 @@ fn verify_from(
     requires few { length first.current + 20480 < 2 ^ 30 }
     requires rounds { rounds ≤ 16 }
     requires nodes { nodes ≤ 4096 }
-    ensures right { IfOk result (λ answer. (input : InputTree) → IsInput input → rules.now.program ≡ rules_of input →
-        IsGoal input.ops (goal_view goal.now) → IsRightFor input (goal_view goal.now) code.now rounds nodes answer) }
+    ensures right { IfOk result (λ answer. (library : LibraryOf) (input : InputTree) → IsInput input →
+        rules.now ≡ rules_of library input → IsGoal input.ops (goal_view goal.now) →
+        IsRightFor input (goal_view goal.now) code.now rounds nodes library answer) }
 {
     compared_graphs_decide();
     same_code_does_the_goal();
@@ -172,26 +175,28 @@ fn verify_from(
     Ok(verified(saturated.rounds, saturated.stop, different))
 }
 
-/// Whether the words are the goal. The rounds are those of the goal's terms and of the terms that the words write.
+/// Whether the words are the goal. The rounds are those of the goal's terms and of the terms that the words write, with
+/// the rules of the library.
 pub fn verify(
     alloc: Global,
     input: &Input,
     code: &Code,
     rounds: u32,
     nodes: u32,
+    library: Library,
 ) -> Result<Verified, NoMemory>
     requires input { IsInput (input_view input.now) }
     requires code { IsCodeOf (input_view input.now) code.now }
     requires rounds { rounds ≤ 16 }
     requires nodes { (1 ≤ nodes) × (nodes ≤ 4096) }
     ensures right { IfOk result (λ answer. (goal : GoalTree) → slice_get (input_view input.now).goals code.now.goal ≡ Some goal →
-        IsRightFor (input_view input.now) goal code.now rounds nodes answer) }
+        IsRightFor (input_view input.now) goal code.now rounds nodes library answer) }
 {
-    let rules = rules(alloc, input)?;
+    let rules = rules(alloc, input, library)?;
     verify_by_rules(alloc, input, &rules, code, rounds, nodes)
 }
 
-/// The same by the rules of the input, which serve for all its codes.
+/// The same by the rules of the input and of a library, which serve for all codes of the input.
 pub(crate) fn verify_by_rules(
     alloc: Global,
     input: &Input,
@@ -201,12 +206,12 @@ pub(crate) fn verify_by_rules(
     nodes: u32,
 ) -> Result<Verified, NoMemory>
     requires input { IsInput (input_view input.now) }
-    requires rules { rules.now.program ≡ rules_of (input_view input.now) }
     requires code { IsCodeOf (input_view input.now) code.now }
     requires rounds { rounds ≤ 16 }
     requires nodes { nodes ≤ 4096 }
-    ensures right { IfOk result (λ answer. (goal : GoalTree) → slice_get (input_view input.now).goals code.now.goal ≡ Some goal →
-        IsRightFor (input_view input.now) goal code.now rounds nodes answer) }
+    ensures right { IfOk result (λ answer. (library : LibraryOf) → rules.now ≡ rules_of library (input_view input.now) →
+        (goal : GoalTree) → slice_get (input_view input.now).goals code.now.goal ≡ Some goal →
+        IsRightFor (input_view input.now) goal code.now rounds nodes library answer) }
 {
     compared_graphs_decide();
     let at = code.goal;

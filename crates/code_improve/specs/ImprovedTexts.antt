@@ -28,8 +28,8 @@ pub record ImprovesText (s : Settings) (text bytes : List ℕ) (ending : Status)
   pub results : List Answered
   pub right : AreRightResults Pinned (input_of_lifts lifts) s results
   pub same : AllZip IsImproved lifts.lifts results
-  pub bytes_are : bytes ≡ answer_text Pinned (input_of_lifts lifts) results
-  pub read_back : ReadsAnswer bytes (answer_to Pinned (input_of_lifts lifts) results)
+  pub bytes_are : bytes ≡ answer_text Pinned s.library (input_of_lifts lifts) results
+  pub read_back : ReadsAnswer bytes (answer_to Pinned s.library (input_of_lifts lifts) results)
   pub status_is : ending ≡ greatest_status results
 
 -- The same, and of each schedule is said whether one with fewer launches fits.
@@ -41,6 +41,6 @@ pub record ImprovesLeast (s : Settings) (text bytes : List ℕ) (ending : Status
   pub same : AllZip IsImproved lifts.lifts results
   pub said : List (Option Tail)
   pub each : AllZip (IsTailOf lifts.table s.conflicts) results said
-  pub bytes_are : bytes ≡ answer_text Pinned (input_of_lifts lifts) results ++ lines_text (tail_lines said)
-  pub read_back : ReadsTailed bytes (answer_to Pinned (input_of_lifts lifts) results) said
+  pub bytes_are : bytes ≡ answer_text Pinned s.library (input_of_lifts lifts) results ++ lines_text (tail_lines said)
+  pub read_back : ReadsTailed bytes (answer_to Pinned s.library (input_of_lifts lifts) results) said
   pub status_is : ending ≡ least_status results said

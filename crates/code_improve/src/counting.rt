@@ -11,6 +11,7 @@ ghost use Rattle.machine_table.specs.Tables.{IsTable};
 ghost use Rattle.machine_table.specs.declared.tables.Table.{Table as TableOf};
 ghost use Rattle.schedule_meaning.specs.Limits.{most_cycles};
 
+use axiom_library::Library;
 use code_lift::Lift;
 use denali_run::{Pick, Reached, Settings, Trial, fewest_cycles};
 use items::NoMemory;
@@ -62,6 +63,7 @@ pub fn count_cycles(
         cycles,
         conflicts,
         pick: Pick::First,
+        library: Library::none(),
     };
     let reached = fewest_cycles(alloc, &graph, table, &settings)?;
     Ok(count_of(&reached))

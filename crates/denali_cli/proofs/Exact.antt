@@ -121,7 +121,7 @@ reports_report Check text written status a = subst IsReported (sym a.status_is) 
 reports_report CheckLeast text written status a =
     subst IsReported (sym a.status_is) (one_reports a.rejected Done Missing tt tt)
 reports_report Trim text written status a = trim_reports a.answer written a.report
-reports_report (Verify rounds nodes) text written status a =
+reports_report (Verify rounds nodes library) text written status a =
     subst IsReported (sym a.status_is) (told_reports a.unknown a.no_world)
 reports_report Run text written status a = subst IsReported (sym a.done) tt
 reports_report (Gen size) text written status a = line_reports size a.answered written status a.line
@@ -143,7 +143,7 @@ reports_read (Proc s) text written status a = (a.proc, a.reads)
 reports_read Check text written status a = (a.answer, a.reads)
 reports_read CheckLeast text written status a = (a.answer, a.said, a.reads)
 reports_read Trim text written status a = (a.answer, a.reads)
-reports_read (Verify rounds nodes) text written status a = (a.told.checked, a.told.reads)
+reports_read (Verify rounds nodes library) text written status a = (a.told.checked, a.told.reads)
 reports_read Run text written status a = (a.program, a.reads)
 reports_read (Gen size) text written status a = tt
 reports_read (Cnf goal cycles) text written status a = (a.answer, a.reads)

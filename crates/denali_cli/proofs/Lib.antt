@@ -1,4 +1,5 @@
 pub mod Decided
+pub mod NamedFamilies
 pub mod Exact
 pub mod OptionSteps
 pub mod DoneWork

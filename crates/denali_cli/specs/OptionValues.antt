@@ -1,8 +1,13 @@
 -- What options take for values, and what stands where they aren't set. Source: this project.
-use Rattle.std.specs.Prelude.{ℕ, Bool, false, List, None, Some, is_none, codes, decimal, nat_lt, not, ◌≤◌, ◌&&◌, if◌then◌else◌, unwrap_or, IfSome}
+use Rattle.std.specs.Prelude.{ℕ, Bool, false, List, [], ◌∷◌, ◌==◌, None, Some, is_none, codes, decimal, nat_lt, not, ◌≤◌, ◌&&◌, if◌then◌else◌, unwrap_or, IfSome}
 use Rattle.std.specs.Str.Parse.{digits_value}
 use Rattle.std.specs.declared.option.Option.{Option}
 use Rattle.std.specs.Str.{bytes_eq}
+use Rattle.std.specs.List.{slice_split}
+use Rattle.std.specs.Option.{option_and_then}
+use Rattle.axiom_library.specs.Libraries.{all_but_halves, has_family, no_library, with_family}
+use Rattle.axiom_library.specs.Names.{family_named}
+use Rattle.axiom_library.specs.declared.libraries.Library.{Library}
 use Rattle.text_core.specs.Limits.{most_goals}
 use Rattle.schedule_meaning.specs.Limits.{most_cycles}
 use Rattle.denali_run.specs.declared.settings.Pick.{Pick}
@@ -37,6 +42,28 @@ pick_value word =
     else if bytes_eq word (codes "busy") then Some Busy
     else None
 
+-- the parts of a word between its commas
+abbrev pub parts_of : List ℕ → List (List ℕ)
+parts_of word = slice_split (λ b. b == 44) word
+
+-- the library with the family of this name, which it doesn't have yet
+abbrev pub with_named : Library → List ℕ → Option Library
+with_named library name =
+    option_and_then (λ family. if has_family library family then None else Some (with_family library family))
+    (family_named name)
+
+-- the library with the families of these names, each of which is new
+abbrev pub library_of_names : Library → List (List ℕ) → Option Library
+library_of_names library [] = Some library
+library_of_names library (name ∷ names) =
+    option_and_then (λ more. library_of_names more names) (with_named library name)
+
+abbrev pub library_value : List ℕ → Option Library
+library_value word =
+    if bytes_eq word (codes "none") then Some no_library
+    else if bytes_eq word (codes "all") then Some all_but_halves
+    else library_of_names no_library (parts_of word)
+
 -- how many operators a generated goal has
 abbrev pub size_value : List ℕ → Option ℕ
 size_value = number_within 1 20
@@ -60,7 +87,7 @@ default_conflicts = 20000
 -- ---- the options of `solve`
 
 abbrev pub no_options : Options
-no_options = record { rounds = None; nodes = None; cycles = None; conflicts = None; pick = None; least = false }
+no_options = record { rounds = None; nodes = None; cycles = None; conflicts = None; pick = None; library = None; least = false }
 
 -- the numbers that are set are within their ranges
 pub record AreInRange (o : Options) : Type 0 where
@@ -69,7 +96,7 @@ pub record AreInRange (o : Options) : Type 0 where
   pub cycles : IfSome o.cycles (λ n. n ≤ most_cycles)
   pub conflicts : IfSome o.conflicts (λ n. (1 ≤ n) × (n ≤ 1000000))
 
--- no other option is set than those of rounds
+-- no other option is set than those of rounds and rules
 abbrev pub has_rounds_alone : Options → Bool
 has_rounds_alone o = is_none o.cycles && (is_none o.conflicts && (is_none o.pick && not o.least))
 
@@ -79,12 +106,13 @@ default_rounds = 4
 abbrev pub default_nodes : ℕ
 default_nodes = 512
 
--- where an option isn't set, its default stands
-abbrev pub settings_of : Options → Settings
-settings_of o = record {
+-- where an option isn't set, its default stands, and the command's own library
+abbrev pub settings_of : Library → Options → Settings
+settings_of library o = record {
   rounds = unwrap_or o.rounds default_rounds;
   nodes = unwrap_or o.nodes default_nodes;
   cycles = unwrap_or o.cycles default_cycles;
   conflicts = unwrap_or o.conflicts default_conflicts;
   pick = unwrap_or o.pick First;
+  library = unwrap_or o.library library;
 }

@@ -4,9 +4,11 @@ use Rattle.std.specs.Prelude.{List, ℕ, Bool, true, [], ◌∷◌, ◌&&◌, No
 use Rattle.std.specs.Option.{option_and_then, option_map}
 use Rattle.std.specs.declared.option.Option.{Option}
 use Rattle.std.specs.Str.{bytes_eq}
+use Rattle.axiom_library.specs.Libraries.{all_but_halves, no_library}
+use Rattle.axiom_library.specs.declared.libraries.Library.{Library}
 use Rattle.denali_cli.specs.Commands.{Command, Solve, SolveLeast, Proc, Check, CheckLeast, Trim, Verify, Run, Gen, Cnf, Lift, Improve, ImproveLeast, Cycles}
 use Rattle.denali_cli.specs.declared.options.Options.{Options}
-use Rattle.denali_cli.specs.OptionValues.{rounds_value, nodes_value, cycles_value, conflicts_value, pick_value, no_options, settings_of, has_rounds_alone, default_rounds, default_nodes, size_value, default_size, goal_number_value, default_goal, default_cycles, default_conflicts}
+use Rattle.denali_cli.specs.OptionValues.{rounds_value, nodes_value, cycles_value, conflicts_value, pick_value, library_value, no_options, settings_of, has_rounds_alone, default_rounds, default_nodes, size_value, default_size, goal_number_value, default_goal, default_cycles, default_conflicts}
 
 -- the value for an option that wasn't set before
 abbrev pub once : {A : Type 0} → Option A → Option A → Option A
@@ -26,6 +28,8 @@ set_option o name value =
     then option_map (λ n. record o { conflicts = Some n }) (once o.conflicts (conflicts_value value))
     else if bytes_eq name (codes "--pick")
     then option_map (λ p. record o { pick = Some p }) (once o.pick (pick_value value))
+    else if bytes_eq name (codes "--library")
+    then option_map (λ library. record o { library = Some library }) (once o.library (library_value value))
     else None
 
 abbrev pub and_then : Option Options → (Options → Option Options) → Option Options
@@ -50,11 +54,12 @@ set_options o (name ∷ value ∷ words) =
 
 -- the command of `solve` with these options
 abbrev pub solve_of : Options → Command
-solve_of o = if o.least then SolveLeast (settings_of o) else Solve (settings_of o)
+solve_of o =
+    if o.least then SolveLeast (settings_of no_library o) else Solve (settings_of no_library o)
 
 -- the command of `proc` with these options, which are those of `solve` without the flag
 abbrev pub proc_of : Options → Option Command
-proc_of o = if o.least then None else Some (Proc (settings_of o))
+proc_of o = if o.least then None else Some (Proc (settings_of no_library o))
 
 -- the command of `check` with these words behind it: none, or the flag
 abbrev pub check_of : List (List ℕ) → Option Command
@@ -112,18 +117,25 @@ plain_cnf [] = Some (cnf_of None None)
 plain_cnf (name ∷ []) = None
 plain_cnf (name ∷ value ∷ words) = cnf_with_more name value words
 
--- the command of `verify` with these options, which are those of rounds
-abbrev pub verify_of : Options → Option Command
-verify_of o =
-    if has_rounds_alone o then Some (Verify (unwrap_or o.rounds default_rounds) (unwrap_or o.nodes default_nodes)) else None
+-- the command of `verify` with what is set of its options
+abbrev pub verify_with : Option ℕ → Option ℕ → Option Library → Command
+verify_with rounds nodes library =
+    Verify (unwrap_or rounds default_rounds) (unwrap_or nodes default_nodes) (unwrap_or library no_library)
 
--- the command of `improve` with these options, which are those of `solve`
+-- the command of `verify` with these options, which are those of rounds and rules
+abbrev pub verify_of : Options → Option Command
+verify_of o = if has_rounds_alone o then Some (verify_with o.rounds o.nodes o.library) else None
+
+-- the command of `improve` with these options, which are those of `solve`; given words come without axioms, so it has a
+-- library of its own
 abbrev pub improve_of : Options → Command
-improve_of o = if o.least then ImproveLeast (settings_of o) else Improve (settings_of o)
+improve_of o =
+    if o.least then ImproveLeast (settings_of all_but_halves o) else Improve (settings_of all_but_halves o)
 
 -- no other option is set than the most cycles and the conflicts for each
 abbrev pub has_cycles_alone : Options → Bool
-has_cycles_alone o = is_none o.rounds && (is_none o.nodes && (is_none o.pick && not o.least))
+has_cycles_alone o =
+    is_none o.rounds && (is_none o.nodes && (is_none o.pick && (is_none o.library && not o.least)))
 
 -- the command of `cycles` with these options
 abbrev pub cycles_of : Options → Option Command

@@ -7,10 +7,11 @@ use Rattle.std.specs.declared.option.Option.{Option}
 use Rattle.std.specs.Str.{bytes_eq}
 use Rattle.clap.specs.Words.{App, Kinds, Row, Rule, Text, fault_of, first_of, new_app, new_rule, subcommand_of, with_rule, with_subcommand}
 use Rattle.clap.specs.declared.builder.action.ArgAction.TheVariants.{Set, SetTrue}
-use Rattle.denali_cli.specs.Commands.{Command, Proc, Check, CheckLeast, Trim, Verify, Run, Gen, Lift, Cycles}
+use Rattle.axiom_library.specs.Libraries.{no_library}
+use Rattle.denali_cli.specs.Commands.{Command, Proc, Check, CheckLeast, Trim, Run, Gen, Lift, Cycles}
 use Rattle.denali_cli.specs.declared.options.Options.{Options}
-use Rattle.denali_cli.specs.PlainForms.{cnf_of, improve_of, solve_of}
-use Rattle.denali_cli.specs.OptionValues.{rounds_value, nodes_value, cycles_value, conflicts_value, pick_value, settings_of, default_rounds, default_nodes, size_value, default_size, goal_number_value, default_cycles, default_conflicts}
+use Rattle.denali_cli.specs.PlainForms.{cnf_of, improve_of, solve_of, verify_with}
+use Rattle.denali_cli.specs.OptionValues.{rounds_value, nodes_value, cycles_value, conflicts_value, pick_value, library_value, settings_of, size_value, default_size, goal_number_value, default_cycles, default_conflicts}
 
 -- ---- the program
 
@@ -29,7 +30,7 @@ least_rule = record (new_rule (codes "least")) { long = Some (codes "least"); ac
 -- the options with a value of a command that solves goals
 abbrev pub solving_app : Text → App
 solving_app name = with_options (new_app name)
-    (codes "rounds" ∷ codes "nodes" ∷ codes "cycles" ∷ codes "conflicts" ∷ codes "pick" ∷ [])
+    (codes "rounds" ∷ codes "nodes" ∷ codes "cycles" ∷ codes "conflicts" ∷ codes "pick" ∷ codes "library" ∷ [])
 
 abbrev pub solve_app : App
 solve_app = with_rule (solving_app (codes "solve")) least_rule
@@ -38,7 +39,7 @@ abbrev pub check_app : App
 check_app = with_rule (new_app (codes "check")) least_rule
 
 abbrev pub verify_app : App
-verify_app = with_options (new_app (codes "verify")) (codes "rounds" ∷ codes "nodes" ∷ [])
+verify_app = with_options (new_app (codes "verify")) (codes "rounds" ∷ codes "nodes" ∷ codes "library" ∷ [])
 
 abbrev pub gen_app : App
 gen_app = with_options (new_app (codes "gen")) (codes "size" ∷ [])
@@ -91,14 +92,17 @@ options_in rows =
     option_and_then (λ nodes.
     option_and_then (λ cycles.
     option_and_then (λ conflicts.
-    option_map (λ pick. record {
+    option_and_then (λ pick.
+    option_map (λ library. record {
       rounds = rounds;
       nodes = nodes;
       cycles = cycles;
       conflicts = conflicts;
       pick = pick;
+      library = library;
       least = has_least rows;
     })
+    (value_given library_value (first_of (codes "library") rows)))
     (value_given pick_value (first_of (codes "pick") rows)))
     (value_given conflicts_value (first_of (codes "conflicts") rows)))
     (value_given cycles_value (first_of (codes "cycles") rows)))
@@ -109,7 +113,7 @@ abbrev pub solve_in : List Row → Option Command
 solve_in rows = option_map solve_of (options_in rows)
 
 abbrev pub proc_in : List Row → Option Command
-proc_in rows = option_map (λ o. Proc (settings_of o)) (options_in rows)
+proc_in rows = option_map (λ o. Proc (settings_of no_library o)) (options_in rows)
 
 abbrev pub check_in : List Row → Command
 check_in rows = if has_least rows then CheckLeast else Check
@@ -117,7 +121,9 @@ check_in rows = if has_least rows then CheckLeast else Check
 abbrev pub verify_in : List Row → Option Command
 verify_in rows =
     option_and_then (λ rounds.
-    option_map (λ nodes. Verify (unwrap_or rounds default_rounds) (unwrap_or nodes default_nodes))
+    option_and_then (λ nodes.
+    option_map (λ library. verify_with rounds nodes library)
+    (value_given library_value (first_of (codes "library") rows)))
     (value_given nodes_value (first_of (codes "nodes") rows)))
     (value_given rounds_value (first_of (codes "rounds") rows))
 

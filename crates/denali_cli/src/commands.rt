@@ -2,6 +2,7 @@
 ghost use Rattle.std.specs.Prelude.{◌≡◌, ◌≤◌};
 ghost use Rattle.denali_cli.specs.Formats as specs;
 
+use axiom_library::Library;
 use denali_run::Settings;
 
 /// What words ask for.
@@ -19,14 +20,22 @@ pub(crate) enum Command {
     CheckLeast,
     /// Trims the refutations of an answer.
     Trim,
-    /// Checks codes against their goals, in so many rounds and up to so many rows.
-    Verify { rounds: u32, nodes: u32 },
+    /// Checks codes against their goals, in so many rounds and up to so many rows, with the rules of a library beside
+    /// those of the text.
+    Verify {
+        rounds: u32,
+        nodes: u32,
+        library: Library,
+    },
     /// Runs the program of a text.
     Run,
     /// Solves the goal that is made from a number of operators.
     Gen(u32),
     /// Writes the clauses for so many cycles of the goal of a number in an answer, counted from 1.
-    Cnf { goal: u32, cycles: u32 },
+    Cnf {
+        goal: u32,
+        cycles: u32,
+    },
     /// Writes the goals of machine words.
     Lift,
     /// Answers machine words with words that do the same in the fewest cycles.
@@ -34,7 +43,10 @@ pub(crate) enum Command {
     /// The same with the fewest launches.
     ImproveLeast(Settings),
     /// Tells in how many cycles machine words can be done, of so many at most and with so many conflicts for each.
-    Cycles { cycles: u32, conflicts: u32 },
+    Cycles {
+        cycles: u32,
+        conflicts: u32,
+    },
 }
 
 /// What a text is that a command reads.

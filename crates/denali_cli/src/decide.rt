@@ -124,7 +124,11 @@ fn report_on(alloc: Global, command: Command, text: &[u8]) -> Result<Report, Tex
         Command::Check => check_text(alloc, text),
         Command::CheckLeast => check_least_text(alloc, text),
         Command::Trim => trim_text(alloc, text),
-        Command::Verify { rounds, nodes } => Ok(told(verify_text(alloc, text, rounds, nodes)?)),
+        Command::Verify {
+            rounds,
+            nodes,
+            library,
+        } => Ok(told(verify_text(alloc, text, rounds, nodes, library)?)),
         Command::Run => run_text(alloc, text),
         Command::Gen(size) => Ok(gen_text(alloc, size)?),
         Command::Cnf { goal, cycles } => clauses_text(alloc, text, goal - 1, cycles),

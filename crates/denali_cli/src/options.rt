@@ -1,5 +1,6 @@
 // Options, and their values.
-ghost use Rattle.std.specs.Prelude.{◌≡◌, ◌≤◌, ◌<◌, ◌^◌, IfSome, IfNone, map};
+ghost use Rattle.std.specs.Prelude.{◌≡◌, ◌≤◌, ◌<◌, ◌^◌, All, IfSome, IfNone, length, map, slice_index, take};
+ghost use Rattle.axiom_library.specs.Libraries.{no_library};
 ghost use Rattle.text_core.specs.Limits.{most_goals};
 ghost use Rattle.schedule_meaning.specs.Limits.{most_cycles};
 ghost use Rattle.denali_run.specs.MatchedGoals.{IsSettings};
@@ -8,6 +9,7 @@ ghost use Rattle.denali_cli.specs.OptionValues as values;
 ghost use Rattle.denali_cli.specs.PlainForms as plain;
 
 use crate::commands::Command;
+use axiom_library::{Library, family_named};
 use denali_run::{Pick, Settings};
 use schedule_meaning::MOST_CYCLES;
 use text_core::decimal;
@@ -24,9 +26,9 @@ pub(crate) const MOST_SIZE: u32 = 20;
 pub(crate) const MOST_GOALS: u32 = text_core::MOST_GOALS as u32;
 
 /// How many rounds are done at most, and up to how many rows, where no option says so.
-pub(crate) const DEFAULT_ROUNDS: u32 = 4;
+const DEFAULT_ROUNDS: u32 = 4;
 
-pub(crate) const DEFAULT_NODES: u32 = 512;
+const DEFAULT_NODES: u32 = 512;
 
 /// How many operators a generated goal has where no option says so.
 pub(crate) const DEFAULT_SIZE: u32 = 10;
@@ -47,6 +49,7 @@ pub(crate) struct Options {
     pub(crate) cycles: Option<u32>,
     pub(crate) conflicts: Option<u32>,
     pub(crate) pick: Option<Pick>,
+    pub(crate) library: Option<Library>,
     pub(crate) least: bool,
 }
 
@@ -79,6 +82,51 @@ pub(crate) fn pick_of(word: &str) -> Option<Pick>
     }
 }
 
+/// The place of the first comma.
+fn comma_in(bytes: &[u8]) -> Option<usize>
+    ensures some { IfSome result (λ at. (at < length bytes.now) × (slice_index bytes.now at ≡ 44)) }
+    ensures first { IfSome result (λ at. All (λ b. b ≡ 44 → ⊥) (take at bytes.now)) }
+    ensures none { IfNone result (All (λ b. b ≡ 44 → ⊥) bytes.now) }
+{
+    bytes.iter().position(|b| *b == b',')
+}
+
+/// The library with one more family, by its name. None where it has the family.
+fn with_named(library: Library, name: &[u8]) -> Option<Library>
+    ensures { result ≡ values.with_named library name.now }
+{
+    let family = family_named(name)?;
+    if library.has(family) {
+        return None;
+    }
+    Some(library.with(family))
+}
+
+/// The library of the families that are named, with commas between them, each once.
+fn library_named(names: &[u8]) -> Option<Library>
+    ensures { result ≡ values.library_of_names no_library (values.parts_of names.now) }
+{
+    let mut library = Library::none();
+    let mut rest = names;
+    while let Some(at) = comma_in(rest) {
+        library = with_named(library, &rest[..at])?;
+        rest = &rest[at + 1..];
+    }
+    with_named(library, rest)
+}
+
+pub(crate) fn library_of(word: &str) -> Option<Library>
+    ensures { result ≡ values.library_value word.now }
+{
+    if word == "none" {
+        Some(Library::none())
+    } else if word == "all" {
+        Some(Library::all())
+    } else {
+        library_named(word.as_bytes())
+    }
+}
+
 /// The value for an option that wasn't set before.
 fn once<A: Copy>(before: Option<A>, value: Option<A>) -> Option<A>
     ensures { result ≡ plain.once before value }
@@ -106,6 +154,8 @@ fn with_option(options: Options, name: &str, value: &str) -> Option<Options>
         options.conflicts = Some(once(options.conflicts, value_in(1, MOST_CONFLICTS, value))?);
     } else if name == "--pick" {
         options.pick = Some(once(options.pick, pick_of(value))?);
+    } else if name == "--library" {
+        options.library = Some(once(options.library, library_of(value))?);
     } else {
         return None;
     }
@@ -180,14 +230,16 @@ fn no_options() -> Options
         cycles: None,
         conflicts: None,
         pick: None,
+        library: None,
         least: false,
     }
 }
 
-/// Where an option isn't set, its default stands: 4 rounds, 512 rows, 8 cycles, 20,000 conflicts.
-pub(crate) fn settings_of(options: Options) -> Settings
+/// Where an option isn't set, its default stands: 4 rounds, 512 rows, 8 cycles, 20,000 conflicts, and the command's own
+/// library.
+pub(crate) fn settings_of(options: Options, library: Library) -> Settings
     requires { values.AreInRange options }
-    ensures value { result ≡ values.settings_of options }
+    ensures value { result ≡ values.settings_of library options }
     ensures within { IsSettings result }
 {
     Settings {
@@ -196,6 +248,7 @@ pub(crate) fn settings_of(options: Options) -> Settings
         cycles: options.cycles.unwrap_or(DEFAULT_CYCLES),
         conflicts: options.conflicts.unwrap_or(DEFAULT_CONFLICTS),
         pick: options.pick.unwrap_or(Pick::First),
+        library: options.library.unwrap_or(library),
     }
 }
 
@@ -205,7 +258,7 @@ pub(crate) fn solve_of(options: Options) -> Command
     ensures value { result ≡ plain.solve_of options }
     ensures within { HasValuesInRange result }
 {
-    let settings = settings_of(options);
+    let settings = settings_of(options, Library::none());
     if options.least {
         Command::SolveLeast(settings)
     } else {
@@ -213,17 +266,36 @@ pub(crate) fn solve_of(options: Options) -> Command
     }
 }
 
-/// The command of `improve` with these options.
+/// The command of `improve` with these options. Given words come without axioms, so its own library has all families but
+/// one.
 pub(crate) fn improve_of(options: Options) -> Command
     requires { values.AreInRange options }
     ensures value { result ≡ plain.improve_of options }
     ensures within { HasValuesInRange result }
 {
-    let settings = settings_of(options);
+    let settings = settings_of(options, Library::all());
     if options.least {
         Command::ImproveLeast(settings)
     } else {
         Command::Improve(settings)
+    }
+}
+
+/// The command of `verify` with what is set of its options.
+pub(crate) fn verify_with(
+    rounds: Option<u32>,
+    nodes: Option<u32>,
+    library: Option<Library>,
+) -> Command
+    requires rounds { IfSome rounds (λ n. n ≤ 16) }
+    requires nodes { IfSome nodes (λ n. (1 ≤ n) × (n ≤ 4096)) }
+    ensures value { result ≡ plain.verify_with rounds nodes library }
+    ensures within { HasValuesInRange result }
+{
+    Command::Verify {
+        rounds: rounds.unwrap_or(DEFAULT_ROUNDS),
+        nodes: nodes.unwrap_or(DEFAULT_NODES),
+        library: library.unwrap_or(Library::none()),
     }
 }
 

@@ -9,10 +9,11 @@ ghost use Rattle.denali_cli.specs.Spellings as spec;
 
 use crate::commands::Command;
 use crate::options::{
-    DEFAULT_CONFLICTS, DEFAULT_CYCLES, DEFAULT_NODES, DEFAULT_ROUNDS, DEFAULT_SIZE, MOST_CONFLICTS,
-    MOST_GOALS, MOST_NODES, MOST_ROUNDS, MOST_SIZE, Options, cnf_of, improve_of, pick_of,
-    settings_of, solve_of, value_in,
+    DEFAULT_CONFLICTS, DEFAULT_CYCLES, DEFAULT_SIZE, MOST_CONFLICTS, MOST_GOALS, MOST_NODES,
+    MOST_ROUNDS, MOST_SIZE, Options, cnf_of, improve_of, library_of, pick_of, settings_of,
+    solve_of, value_in, verify_with,
 };
+use axiom_library::Library;
 use clap::error::ErrorKind;
 use clap::{Arg, ArgAction, ArgMatches, Command as Parser};
 use denali_run::Pick;
@@ -54,7 +55,8 @@ fn solving_parser<'a>(alloc: Global, name: &'a str) -> Result<Parser<'a>, NoMemo
     let parser = with_argument(alloc, parser, "nodes")?;
     let parser = with_argument(alloc, parser, "cycles")?;
     let parser = with_argument(alloc, parser, "conflicts")?;
-    with_argument(alloc, parser, "pick")
+    let parser = with_argument(alloc, parser, "pick")?;
+    with_argument(alloc, parser, "library")
 }
 
 /// `verify` with its options.
@@ -63,7 +65,8 @@ fn verify_parser<'a>(alloc: Global) -> Result<Parser<'a>, NoMemory>
     ensures local { IfOk result (λ c. (fields_of c).has_globals ≡ false) }
 {
     let verify = with_argument(alloc, Parser::new(alloc, "verify"), "rounds")?;
-    with_argument(alloc, verify, "nodes")
+    let verify = with_argument(alloc, verify, "nodes")?;
+    with_argument(alloc, verify, "library")
 }
 
 /// The program with the commands on goals, for words without its name.
@@ -185,6 +188,16 @@ fn pick_given(matches: &ArgMatches<'_>, name: &str) -> Option<Option<Pick>>
     Some(Some(pick))
 }
 
+fn library_given(matches: &ArgMatches<'_>, name: &str) -> Option<Option<Library>>
+    ensures { result ≡ spec.value_given values.library_value (first_of name.now (rows_of (found_of matches.now))) }
+{
+    let Some(word) = matches.get_str(name) else {
+        return Some(None);
+    };
+    let library = library_of(word)?;
+    Some(Some(library))
+}
+
 /// Whether the flag is given.
 fn has_least(matches: &ArgMatches<'_>) -> bool
     ensures { result ≡ spec.has_least (rows_of (found_of matches.now)) }
@@ -205,6 +218,7 @@ fn options_in(matches: &ArgMatches<'_>) -> Option<Options>
     let cycles = number_given(matches, "cycles", 0, MOST_CYCLES)?;
     let conflicts = number_given(matches, "conflicts", 1, MOST_CONFLICTS)?;
     let pick = pick_given(matches, "pick")?;
+    let library = library_given(matches, "library")?;
     let least = has_least(matches);
     Some(Options {
         rounds,
@@ -212,6 +226,7 @@ fn options_in(matches: &ArgMatches<'_>) -> Option<Options>
         cycles,
         conflicts,
         pick,
+        library,
         least,
     })
 }
@@ -231,7 +246,7 @@ fn proc_in(matches: &ArgMatches<'_>) -> Option<Command>
     ensures within { IfSome result HasValuesInRange }
 {
     let options = options_in(matches)?;
-    Some(Command::Proc(settings_of(options)))
+    Some(Command::Proc(settings_of(options, Library::none())))
 }
 
 /// The command of `check` with the flag, or without it.
@@ -253,10 +268,8 @@ fn verify_in(matches: &ArgMatches<'_>) -> Option<Command>
 {
     let rounds = number_given(matches, "rounds", 0, MOST_ROUNDS)?;
     let nodes = number_given(matches, "nodes", 1, MOST_NODES)?;
-    Some(Command::Verify {
-        rounds: rounds.unwrap_or(DEFAULT_ROUNDS),
-        nodes: nodes.unwrap_or(DEFAULT_NODES),
-    })
+    let library = library_given(matches, "library")?;
+    Some(verify_with(rounds, nodes, library))
 }
 
 /// The command of `gen` with the size that is given.

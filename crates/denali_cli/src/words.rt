@@ -9,10 +9,11 @@ ghost use Rattle.denali_cli.specs.Said.{asked_by};
 
 use crate::commands::Command;
 use crate::options::{
-    DEFAULT_CONFLICTS, DEFAULT_CYCLES, DEFAULT_NODES, DEFAULT_ROUNDS, MOST_GOALS, Options, cnf_of,
-    improve_of, is_flag, options_of, settings_of, size_in, solve_of, value_in,
+    DEFAULT_CONFLICTS, DEFAULT_CYCLES, MOST_GOALS, Options, cnf_of, improve_of, is_flag,
+    options_of, settings_of, size_in, solve_of, value_in, verify_with,
 };
 use crate::spelling::spelled;
+use axiom_library::Library;
 use items::NoMemory;
 use schedule_meaning::MOST_CYCLES;
 use std::alloc::Global;
@@ -39,7 +40,7 @@ fn proc_of(options: Options) -> Option<Command>
     if options.least {
         return None;
     }
-    Some(Command::Proc(settings_of(options)))
+    Some(Command::Proc(settings_of(options, Library::none())))
 }
 
 /// The command of `check` with these words behind it: none, or the flag.
@@ -124,7 +125,7 @@ fn cnf_in(words: &[&str]) -> Option<Command>
     cnf_with_more(name, value, words)
 }
 
-/// The command of `verify` with these options, which are those of rounds.
+/// The command of `verify` with these options, which are those of rounds and rules.
 fn verify_of(options: Options) -> Option<Command>
     requires { AreInRange options }
     ensures value { result ≡ plain.verify_of options }
@@ -136,10 +137,7 @@ fn verify_of(options: Options) -> Option<Command>
     if options.pick.is_some() || options.least {
         return None;
     }
-    Some(Command::Verify {
-        rounds: options.rounds.unwrap_or(DEFAULT_ROUNDS),
-        nodes: options.nodes.unwrap_or(DEFAULT_NODES),
-    })
+    Some(verify_with(options.rounds, options.nodes, options.library))
 }
 
 /// The command of `cycles` with these options, which are the most cycles and the conflicts for each.
@@ -151,7 +149,7 @@ fn cycles_of(options: Options) -> Option<Command>
     if options.rounds.is_some() || options.nodes.is_some() {
         return None;
     }
-    if options.pick.is_some() || options.least {
+    if options.pick.is_some() || options.library.is_some() || options.least {
         return None;
     }
     Some(Command::Cycles {

@@ -1,6 +1,7 @@
 // What some words ask for, by the definitions.
 ghost use Rattle.std.specs.Prelude.{◌≡◌, [], ◌∷◌, None, Some, codes};
 ghost use Rattle.denali_run.specs.declared.settings.Pick.TheVariants.{Last, Busy};
+ghost use Rattle.axiom_library.specs.Libraries.{no_library};
 ghost use Rattle.denali_cli.specs.Commands.{Solve, SolveLeast, Proc, Check, CheckLeast, Trim, Verify, Run, Gen, Cnf};
 ghost use Rattle.denali_cli.specs.OptionValues.{no_options, settings_of};
 ghost use Rattle.denali_cli.specs.Said.{command_of};
@@ -9,36 +10,36 @@ ghost use Rattle.denali_cli.specs.Spellings.{spelled_command};
 /// Other spellings mean what clap makes of them, and plain forms mean the same to clap.
 pub fn worked_words()
     ensures joined { command_of (codes "solve" ∷ codes "--rounds=3" ∷ codes "--pick=first" ∷ [])
-        ≡ Some (Solve (settings_of (record no_options { rounds = Some 3 }))) }
+        ≡ Some (Solve (settings_of no_library (record no_options { rounds = Some 3 }))) }
     ensures picks_last { command_of (codes "solve" ∷ codes "--pick" ∷ codes "last" ∷ [])
-        ≡ Some (Solve (settings_of (record no_options { pick = Some Last }))) }
+        ≡ Some (Solve (settings_of no_library (record no_options { pick = Some Last }))) }
     ensures picks_busiest { command_of (codes "solve" ∷ codes "--pick=busy" ∷ [])
-        ≡ Some (Solve (settings_of (record no_options { pick = Some Busy }))) }
+        ≡ Some (Solve (settings_of no_library (record no_options { pick = Some Busy }))) }
     ensures mixed { command_of (codes "solve" ∷ codes "--cycles=0" ∷ codes "--nodes" ∷ codes "7" ∷ [])
-        ≡ Some (Solve (settings_of (record no_options { nodes = Some 7; cycles = Some 0 }))) }
+        ≡ Some (Solve (settings_of no_library (record no_options { nodes = Some 7; cycles = Some 0 }))) }
     ensures dashes { command_of (codes "solve" ∷ codes "--conflicts" ∷ codes "5" ∷ codes "--" ∷ [])
-        ≡ Some (Solve (settings_of (record no_options { conflicts = Some 5 }))) }
+        ≡ Some (Solve (settings_of no_library (record no_options { conflicts = Some 5 }))) }
     ensures plain { spelled_command (codes "solve" ∷ codes "--nodes" ∷ codes "7" ∷ codes "--rounds" ∷ codes "0" ∷ [])
         ≡ command_of (codes "solve" ∷ codes "--nodes" ∷ codes "7" ∷ codes "--rounds" ∷ codes "0" ∷ []) }
     ensures bare { spelled_command (codes "solve" ∷ []) ≡ command_of (codes "solve" ∷ []) }
     ensures links { command_of (codes "proc" ∷ codes "--cycles" ∷ codes "9" ∷ [])
-        ≡ Some (Proc (settings_of (record no_options { cycles = Some 9 }))) }
+        ≡ Some (Proc (settings_of no_library (record no_options { cycles = Some 9 }))) }
     ensures joined_cycles { command_of (codes "proc" ∷ codes "--cycles=9" ∷ [])
-        ≡ Some (Proc (settings_of (record no_options { cycles = Some 9 }))) }
+        ≡ Some (Proc (settings_of no_library (record no_options { cycles = Some 9 }))) }
     ensures checks { command_of (codes "check" ∷ []) ≡ Some Check }
     ensures checks_least { command_of (codes "check" ∷ codes "--least" ∷ []) ≡ Some CheckLeast }
-    ensures solves_least { command_of (codes "solve" ∷ codes "--least" ∷ []) ≡ Some (SolveLeast (settings_of no_options)) }
+    ensures solves_least { command_of (codes "solve" ∷ codes "--least" ∷ []) ≡ Some (SolveLeast (settings_of no_library no_options)) }
     ensures flag_among_pairs { command_of (codes "solve" ∷ codes "--nodes" ∷ codes "7" ∷ codes "--least" ∷ codes "--rounds" ∷ codes "3" ∷ [])
-        ≡ Some (SolveLeast (settings_of (record no_options { rounds = Some 3; nodes = Some 7 }))) }
+        ≡ Some (SolveLeast (settings_of no_library (record no_options { rounds = Some 3; nodes = Some 7 }))) }
     ensures flag_in_another_spelling { command_of (codes "solve" ∷ codes "--least" ∷ codes "--rounds=3" ∷ [])
-        ≡ Some (SolveLeast (settings_of (record no_options { rounds = Some 3 }))) }
+        ≡ Some (SolveLeast (settings_of no_library (record no_options { rounds = Some 3 }))) }
     ensures plain_flag { spelled_command (codes "solve" ∷ codes "--rounds" ∷ codes "3" ∷ codes "--least" ∷ [])
         ≡ command_of (codes "solve" ∷ codes "--rounds" ∷ codes "3" ∷ codes "--least" ∷ []) }
     ensures trims { command_of (codes "trim" ∷ []) ≡ Some Trim }
-    ensures verifies { command_of (codes "verify" ∷ []) ≡ Some (Verify 4 512) }
-    ensures joined_rounds { command_of (codes "verify" ∷ codes "--rounds=3" ∷ []) ≡ Some (Verify 3 512) }
+    ensures verifies { command_of (codes "verify" ∷ []) ≡ Some (Verify 4 512 no_library) }
+    ensures joined_rounds { command_of (codes "verify" ∷ codes "--rounds=3" ∷ []) ≡ Some (Verify 3 512 no_library) }
     ensures rounds_and_rows { command_of (codes "verify" ∷ codes "--nodes" ∷ codes "7" ∷ codes "--rounds" ∷ codes "0" ∷ [])
-        ≡ Some (Verify 0 7) }
+        ≡ Some (Verify 0 7 no_library) }
     ensures runs { command_of (codes "run" ∷ []) ≡ Some Run }
     ensures runs_behind_dashes { command_of (codes "run" ∷ codes "--" ∷ []) ≡ Some Run }
     ensures generates { command_of (codes "gen" ∷ []) ≡ Some (Gen 10) }

@@ -112,7 +112,7 @@ module _ (slots : SlotsAreThere) (accepted : AcceptedAreReadable) (input : Input
 
   pub answers_can_be_printed : (results : List Answered) → StartsWithinFormat input
       → AllZip (λ goal answered. Right Pinned input goal s answered) input.goals results
-      → IsPrintable (answer_to Pinned input results)
+      → IsPrintable (answer_to Pinned s.library input results)
   answers_can_be_printed results small right =
       let many = as_many input.goals results (λ goal answered. Right Pinned input goal s answered) right in
       let some = is.some_goal in

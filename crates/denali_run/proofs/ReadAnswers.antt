@@ -22,9 +22,9 @@ use Rattle.denali_run.proofs.SameParts.{append_same}
 pub results_once : Laws → (e : Encoding) (s : Settings) (input : InputTree) (results others : List Answered)
     → IsInput input → IsSettings s → AllZip (λ goal answered. Right e input goal s answered) input.goals results
     → AllZip (λ goal answered. Right e input goal s answered) input.goals others
-    → answer_text e input results ≡ answer_text e input others → results ≡ others
+    → answer_text e s.library input results ≡ answer_text e s.library input others → results ≡ others
 results_once laws e s input results others is set right also same =
-    let head : List Words = whole_head e input in
+    let head : List Words = whole_head e s.library input in
     let lines : List Words = goals_lines input.table input.goals results in
     let more : List Words = goals_lines input.table input.goals others in
     goals_once laws e input s is set input.goals results others is.goals right also
@@ -32,5 +32,5 @@ results_once laws e s input results others is set right also same =
     (each_line (goals_can laws e input s is set input.goals results is.goals right))
     (each_line (goals_can laws e input s is set input.goals others is.goals also))
     (append_same (lines_text head) (lines_text lines) (lines_text more)
-    (sym (flat_map-append line_text head lines) ∙ ap lines_text (same_answer e input results) ∙ same
-    ∙ sym (ap lines_text (same_answer e input others)) ∙ flat_map-append line_text head more)))
+    (sym (flat_map-append line_text head lines) ∙ ap lines_text (same_answer e s.library input results) ∙ same
+    ∙ sym (ap lines_text (same_answer e s.library input others)) ∙ flat_map-append line_text head more)))

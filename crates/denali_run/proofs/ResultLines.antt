@@ -2,6 +2,7 @@
 use Rattle.std.proofs.Common.{◌≡◌, ℕ, ◌-◌, List, [], ◌∷◌, ◌++◌, map, refl, sym, ap, ◌∙◌, ◌+◌, arith, append_assoc, Option, None, Some}
 use Rattle.std.specs.List.{flat_map}
 use Rattle.std.proofs.lemmas.List.Concat.{flat_map-cons}
+use Rattle.axiom_library.specs.declared.libraries.Library.{Library}
 use Rattle.answer_texts.specs.AnswerLines.{launch_words, word_words, where_words, refute_lines, lemmas_lines, rounds_words, scheduled_words, none_words, conflicts_words, size_words, noworld_words, goal_words, end_words, head_lines, answer_lines}
 use Rattle.answer_texts.specs.AnswerLines as format
 use Rattle.cnf_core.specs.declared.line.Lines.{Lines}
@@ -90,10 +91,11 @@ same_goals table (goal ∷ goals) (r ∷ rs) =
     ∙ ap (λ t. format.goal_lines table (claimed goal.name r) ++ t) (same_goals table goals rs)
     ∙ sym (flat_map-cons (format.goal_lines table) (claimed goal.name r) (goals_claimed goals rs))
 
-abbrev pub whole_head : Encoding → InputTree → List Words
-whole_head e input = head_lines (version_of e) (encoding_number e) input.table input.builtin
+abbrev pub whole_head : Encoding → Library → InputTree → List Words
+whole_head e library input = head_lines (version_of e) (encoding_number e) input.table input.builtin library
 
-pub same_answer : (e : Encoding) (input : InputTree) (results : List Answered)
-    → whole_head e input ++ goals_lines input.table input.goals results ≡ answer_lines (answer_to e input results)
-same_answer e input results =
-    ap (λ t. whole_head e input ++ t) (same_goals input.table input.goals results)
+pub same_answer : (e : Encoding) (library : Library) (input : InputTree) (results : List Answered)
+    → whole_head e library input ++ goals_lines input.table input.goals results
+    ≡ answer_lines (answer_to e library input results)
+same_answer e library input results =
+    ap (λ t. whole_head e library input ++ t) (same_goals input.table input.goals results)

@@ -6,7 +6,8 @@ use Rattle.std.proofs.lemmas.List.Elements.{Contains-get_or}
 use Rattle.std.proofs.lemmas.Option.{slice_get_read}
 use Rattle.word_ops.specs.Worlds.{World, IsWorld}
 use Rattle.word_ops.specs.declared.sorts.Op.{Op}
-use Rattle.axiom_base.specs.Rewrites.{Rewrite}
+use Rattle.axiom_base.specs.Schemes.{AddedRules}
+use Rattle.axiom_library.specs.declared.libraries.Library.{Library}
 use Rattle.egraph.specs.Graph.{Graph}
 use Rattle.egraph.specs.declared.rows.Row.{Row}
 use Rattle.machine_table.specs.declared.tables.Table.{Table}
@@ -36,14 +37,14 @@ use Rattle.denali_run.specs.declared.settings.Settings.{Settings}
 use Rattle.saturation.specs.declared.faults.StartFault.{StartFault}
 use Rattle.saturation.specs.declared.faults.StartFault.TheVariants as start
 
-abbrev pub RulesAreTrue : InputTree → GoalTree → Type 0
-RulesAreTrue input goal =
+abbrev pub RulesAreTrue : Library → InputTree → GoalTree → Type 0
+RulesAreTrue library input goal =
     (world : World)
     → IsWorld world
     → HoldsFor input goal world
-    → RulesHold world (declared_name input.ops) (rules_of input) (assumed_pairs goal)
+    → RulesHold world (declared_name input.ops) (rules_of library input) (assumed_pairs goal)
 
-module _ (input : InputTree) (goal : GoalTree) (s : Settings) (rules_true : RulesAreTrue input goal) where
+module _ (input : InputTree) (goal : GoalTree) (s : Settings) (rules_true : RulesAreTrue s.library input goal) where
   named : (a b x y : ℕ) → x ≡ a → y ≡ b → HasNoWorld input goal s a b → HasNoWorld input goal s x y
   named a b x y e f h = subst (λ n. HasNoWorld input goal s n y) (sym e) (subst (HasNoWorld input goal s a) (sym f) h)
 
@@ -56,8 +57,8 @@ module _ (input : InputTree) (goal : GoalTree) (s : Settings) (rules_true : Rule
     named a b x y e.1 e.2 (record {
       round = 0;
       reached = (omega arith, λ i lt. absurd (omega (arith, lt)));
-      clash = h (rules_of input);
-      nowhere = λ world is holds. hopeless (declared_name input.ops) (rules_of input) world is
+      clash = h (rules_of s.library input);
+      nowhere = λ world is holds. hopeless (declared_name input.ops) (rules_of s.library input) world is
           (rules_true world is holds);
     }),
     low_class class c low e.0,
@@ -76,10 +77,10 @@ module _ (input : InputTree) (goal : GoalTree) (s : Settings) (rules_true : Rule
   start_refused fault (Ok x) h hopeless low e = at_start fault x h hopeless low e
   start_refused fault (Err x) h hopeless low e = tt
 
-  module _ (graph : Graph Op) (grown : IsGrown (rules_of input) (present_terms goal) (assumed_pairs goal) graph 0)
-      (stands : GraphStands (declared_name input.ops) (rules_of input) (assumed_pairs goal) (kept_terms goal) graph) where
+  module _ (graph : Graph Op) (grown : IsGrown (rules_of s.library input) (present_terms goal) (assumed_pairs goal) graph 0)
+      (stands : GraphStands (declared_name input.ops) (rules_of s.library input) (assumed_pairs goal) (kept_terms goal) graph) where
     in_rounds : (fault : SaturateFault) (answered : Answered)
-        → SaturateFaultIs (rules_of input) graph s.rounds s.nodes fault → IsHopeless (rules_of input) graph fault
+        → SaturateFaultIs (rules_of s.library input) graph s.rounds s.nodes fault → IsHopeless (rules_of s.library input) graph fault
         → RoundsNameLowClass fault → IsNoWorldInRounds fault answered → Right Pinned input goal s answered
     in_rounds (rounds.NoWorld class a b) (NoWorld c x y) h hopeless low e = (
       named a b x y e.1 e.2 (record {
@@ -100,20 +101,20 @@ module _ (input : InputTree) (goal : GoalTree) (s : Settings) (rules_true : Rule
     in_rounds rounds.Memory answered h hopeless low e = absurd e
 
     pub rounds_refused : {E : Type 0} (fault : SaturateFault) (r : Result Answered E)
-        → SaturateFaultIs (rules_of input) graph s.rounds s.nodes fault → IsHopeless (rules_of input) graph fault
+        → SaturateFaultIs (rules_of s.library input) graph s.rounds s.nodes fault → IsHopeless (rules_of s.library input) graph fault
         → RoundsNameLowClass fault → IfOk r (IsNoWorldInRounds fault) → IfOk r (Right Pinned input goal s)
     rounds_refused fault (Ok x) h hopeless low e = in_rounds fault x h hopeless low e
     rounds_refused fault (Err x) h hopeless low e = tt
 
     pub matched_is : (after : Graph Op) (m : Matched)
-        → IsSaturated (rules_of input) graph s.rounds s.nodes after m.rounds m.stop → m.rounds ≤ s.rounds
+        → IsSaturated (rules_of s.library input) graph s.rounds s.nodes after m.rounds m.stop → m.rounds ≤ s.rounds
         → IsLaunchGraph m.graph → StandsFor input goal m.graph → length m.graph.rows ≤ max (most_rows_at_start goal) s.nodes
-        → (IsGrown (rules_of input) (present_terms goal) (assumed_pairs goal) after m.rounds
-        → IsGrown (rules_of input) (present_terms goal) (assumed_pairs goal) (graph_view input.ops m.graph) m.rounds)
-        → (StopIs (rules_of input) after s.rounds s.nodes m.rounds m.stop
-        → StopIs (rules_of input) (graph_view input.ops m.graph) s.rounds s.nodes m.rounds m.stop)
-        → ((i a b : ℕ) → IsGrown (rules_of input) (present_terms goal) (assumed_pairs goal) after m.rounds → i ≤ m.rounds
-        → IsClashOf input goal i a b → ⊥)
+        → (IsGrown (rules_of s.library input) (present_terms goal) (assumed_pairs goal) after m.rounds
+        → IsGrown (rules_of s.library input) (present_terms goal) (assumed_pairs goal) (graph_view input.ops m.graph) m.rounds)
+        → (StopIs (rules_of s.library input) after s.rounds s.nodes m.rounds m.stop
+        → StopIs (rules_of s.library input) (graph_view input.ops m.graph) s.rounds s.nodes m.rounds m.stop)
+        → ((i a b : ℕ) → IsGrown (rules_of s.library input) (present_terms goal) (assumed_pairs goal) after m.rounds → i ≤ m.rounds
+        → IsClashOf s.library input goal i a b → ⊥)
         → IsMatched input goal s m
     matched_is after m saturated few well_formed stands_for few_rows keeps_grown keeps_stop no_clash =
         let h = saturated.after.grown (present_terms goal) (assumed_pairs goal) grown in
@@ -172,12 +173,12 @@ launched_few first most nodes rows launched f are fewer bound =
     omega (arith, many, fewer, bound)
 
 -- the graph after the rounds
-pub grown_after : (input : InputTree) (goal : GoalTree) (program : List Rewrite) (graph after : Graph Op)
-    (rounds nodes j : ℕ) (stop : Stop) → program ≡ rules_of input → IsSaturated program graph rounds nodes after j stop
-    → IsGrown (rules_of input) (present_terms goal) (assumed_pairs goal) graph 0
-    → IsGrown (rules_of input) (present_terms goal) (assumed_pairs goal) after j
-grown_after input goal program graph after rounds nodes j stop is saturated grown =
-    let h : IsSaturated (rules_of input) graph rounds nodes after j stop =
+pub grown_after : (library : Library) (input : InputTree) (goal : GoalTree) (added : AddedRules) (graph after : Graph Op)
+    (rounds nodes j : ℕ) (stop : Stop) → added ≡ rules_of library input → IsSaturated added graph rounds nodes after j stop
+    → IsGrown (rules_of library input) (present_terms goal) (assumed_pairs goal) graph 0
+    → IsGrown (rules_of library input) (present_terms goal) (assumed_pairs goal) after j
+grown_after library input goal added graph after rounds nodes j stop is saturated grown =
+    let h : IsSaturated (rules_of library input) graph rounds nodes after j stop =
     subst (λ rs. IsSaturated rs graph rounds nodes after j stop) is saturated in
     (h.after.grown (present_terms goal) (assumed_pairs goal) grown).0
 

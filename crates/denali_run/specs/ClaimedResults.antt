@@ -5,6 +5,7 @@ use Rattle.answer_texts.specs.declared.answers.AnswerText.{AnswerText}
 use Rattle.answer_texts.specs.declared.answers.Claim.{Claim}
 use Rattle.answer_texts.specs.declared.answers.Claim.TheVariants as claims
 use Rattle.answer_texts.specs.declared.answers.Claimed.{Claimed}
+use Rattle.axiom_library.specs.declared.libraries.Library.{Library}
 use Rattle.cnf_core.specs.declared.line.Lines.{Lines}
 use Rattle.goal_meaning.specs.Views.{GoalTree, InputTree}
 use Rattle.saturation.specs.AtStart.{most_rows_at_start}
@@ -47,19 +48,20 @@ abbrev pub goals_claimed : List GoalTree → List Answered → List Claimed
 goals_claimed (goal ∷ goals) (answered ∷ more) = claimed goal.name answered ∷ goals_claimed goals more
 goals_claimed _ _ = []
 
--- what the answer to an input with these results says
-abbrev pub answer_to : Encoding → InputTree → List Answered → AnswerText
-answer_to e input results = record {
+-- what the answer to an input with these results says, which were found with the library's rules
+abbrev pub answer_to : Encoding → Library → InputTree → List Answered → AnswerText
+answer_to e library input results = record {
   version = version_of e;
   encoding = encoding_number e;
   table = input.table;
   builtin = input.builtin;
+  library = library;
   goals = goals_claimed input.goals results;
 }
 
 -- the bytes of that answer
-abbrev pub answer_text : Encoding → InputTree → List Answered → List ℕ
-answer_text e input results = answer_bytes (answer_to e input results)
+abbrev pub answer_text : Encoding → Library → InputTree → List Answered → List ℕ
+answer_text e library input results = answer_bytes (answer_to e library input results)
 
 -- the first graph of each goal has at most as many rows as the format allows for a goal
 abbrev pub StartsWithinFormat : InputTree → Type 0

@@ -2,6 +2,7 @@
 use Rattle.std.specs.Prelude.{ℕ, ◌≡◌, List, [], ◌∷◌, length, codes, decimal}
 use Rattle.schedule_meaning.specs.Limits.{most_cycles}
 use Rattle.text_core.specs.LineTexts.{line_text}
+use Rattle.axiom_library.specs.Libraries.{no_library}
 use Rattle.generated_goals.specs.Generated.{generated_goal, generated_input}
 use Rattle.denali_run.specs.Right.{Right}
 use Rattle.denali_run.specs.declared.results.Answered.{Answered}
@@ -14,7 +15,14 @@ use Rattle.reports.specs.declared.statuses.Status.TheVariants as status
 
 -- what the work on each generated goal may take: no round of matching, so the graph has the goal's own terms alone
 abbrev pub generated_settings : Settings
-generated_settings = record { rounds = 0; nodes = 4096; cycles = most_cycles; conflicts = 20000; pick = First }
+generated_settings = record {
+  rounds = 0;
+  nodes = 4096;
+  cycles = most_cycles;
+  conflicts = 20000;
+  pick = First;
+  library = no_library;
+}
 
 -- the size, how many rows the graph has, and the fewest cycles
 abbrev pub scheduled_line : ℕ → ℕ → ℕ → List ℕ

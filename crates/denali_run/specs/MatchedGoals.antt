@@ -11,6 +11,7 @@ use Rattle.saturation.specs.GoalTerms.{assumed_pairs, present_terms, rules_of}
 use Rattle.saturation.specs.Grown.{IsGrown, NotBefore}
 use Rattle.saturation.specs.Rounds.{StopIs}
 use Rattle.saturation.specs.StandsFor.{StandsFor, graph_view}
+use Rattle.axiom_library.specs.declared.libraries.Library.{Library}
 use Rattle.denali_run.specs.declared.results.Matched.{Matched}
 use Rattle.denali_run.specs.declared.settings.Settings.{Settings}
 
@@ -22,18 +23,18 @@ pub record IsSettings (s : Settings) : Type 0 where
   pub conflicts : (1 ≤ s.conflicts) × (s.conflicts ≤ 1000000)
 
 -- two terms have one class in the graph exactly where j rounds make them equal, and each class is that of a term
-abbrev pub IsGrownFor : InputTree → GoalTree → LaunchGraph → ℕ → Type 0
-IsGrownFor input goal g j =
-    IsGrown (rules_of input) (present_terms goal) (assumed_pairs goal) (graph_view input.ops g) j
+abbrev pub IsGrownFor : Library → InputTree → GoalTree → LaunchGraph → ℕ → Type 0
+IsGrownFor library input goal g j =
+    IsGrown (rules_of library input) (present_terms goal) (assumed_pairs goal) (graph_view input.ops g) j
 
 -- j rounds make these constants equal, which differ
-abbrev pub IsClashOf : InputTree → GoalTree → ℕ → ℕ → ℕ → Type 0
-IsClashOf input goal j a b = IsClash (rules_of input) (present_terms goal) (assumed_pairs goal) j a b
+abbrev pub IsClashOf : Library → InputTree → GoalTree → ℕ → ℕ → ℕ → Type 0
+IsClashOf library input goal j a b = IsClash (rules_of library input) (present_terms goal) (assumed_pairs goal) j a b
 
 -- the rounds that are asked for don't end before round j
 abbrev pub ReachesRound : InputTree → GoalTree → Settings → ℕ → Type 0
 ReachesRound input goal s j =
-    (j ≤ s.rounds) × NotBefore (rules_of input) (present_terms goal) (assumed_pairs goal) s.rounds s.nodes j
+    (j ≤ s.rounds) × NotBefore (rules_of s.library input) (present_terms goal) (assumed_pairs goal) s.rounds s.nodes j
 
 -- The graph stands for the goal. Its rounds are as many as are asked for, or the first after which no match is unmet or
 -- another round might pass the limit on rows; it has every equality that they derive and no other, and no two different
@@ -41,8 +42,8 @@ ReachesRound input goal s j =
 pub record IsMatched (input : InputTree) (goal : GoalTree) (s : Settings) (m : Matched) : Type 0 where
   pub graph : IsLaunchGraph m.graph
   pub stands : StandsFor input goal m.graph
-  pub grown : IsGrownFor input goal m.graph m.rounds
+  pub grown : IsGrownFor s.library input goal m.graph m.rounds
   pub reached : ReachesRound input goal s m.rounds
-  pub stops : StopIs (rules_of input) (graph_view input.ops m.graph) s.rounds s.nodes m.rounds m.stop
-  pub no_clash : (j a b : ℕ) → j ≤ m.rounds → ¬ IsClashOf input goal j a b
+  pub stops : StopIs (rules_of s.library input) (graph_view input.ops m.graph) s.rounds s.nodes m.rounds m.stop
+  pub no_clash : (j a b : ℕ) → j ≤ m.rounds → ¬ IsClashOf s.library input goal j a b
   pub few : length m.graph.rows ≤ max (most_rows_at_start goal) s.nodes

@@ -77,7 +77,7 @@ pub record IsScheduled (input : InputTree) (goal : GoalTree) (f : Found) : Type 
 pub record HasNoWorld (input : InputTree) (goal : GoalTree) (s : Settings) (a b : ℕ) : Type 0 where
   pub round : ℕ
   pub reached : ReachesRound input goal s round
-  pub clash : IsClashOf input goal round a b
+  pub clash : IsClashOf s.library input goal round a b
   pub nowhere : (world : World) → IsWorld world → HoldsFor input goal world → ⊥
 
 abbrev pub Right : Encoding → InputTree → GoalTree → Settings → Answered → Type 0

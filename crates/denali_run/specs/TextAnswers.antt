@@ -33,6 +33,6 @@ pub record Answers (s : Settings) (text bytes : List ℕ) (status : Status) : Ty
   pub reads : Reads text input
   pub results : List Answered
   pub right : AreRightResults Pinned input s results
-  pub bytes_are : bytes ≡ answer_text Pinned input results
-  pub read_back : length text ≤ 2 ^ 20 → ReadsAnswer bytes (answer_to Pinned input results)
+  pub bytes_are : bytes ≡ answer_text Pinned s.library input results
+  pub read_back : length text ≤ 2 ^ 20 → ReadsAnswer bytes (answer_to Pinned s.library input results)
   pub status_is : status ≡ greatest_status results

@@ -9,6 +9,7 @@ ghost use Rattle.cycle_encoding.specs.declared.encodings.Encoding.TheVariants.{P
 use crate::results::{Answered, Found, Large, Matched, Missing, Tried};
 use crate::statuses::greatest_status;
 use answer_texts::{ClaimRef, ClaimedRef, put_goal, put_head};
+use axiom_library::Library;
 use cnf_core::Lines;
 use goal_meaning::Input;
 use graph_meaning::Stop;
@@ -107,12 +108,26 @@ fn claimed<'a>(name: &'a Name, answered: &'a Answered) -> ClaimedRef<'a>
 }
 
 /// The bytes of the answer to an input with these results.
-fn print(alloc: Global, input: &Input, results: &[Answered]) -> Result<Vec<u8>, NoMemory>
+fn print(
+    alloc: Global,
+    library: Library,
+    input: &Input,
+    results: &[Answered],
+) -> Result<Vec<u8>, NoMemory>
     requires { length results.now ≡ length input.now.goals }
-    ensures { IfOk result (λ text. text.items ≡ format.answer_text Pinned (input_view input.now) results.now) }
+    ensures { IfOk result (λ text. text.items
+        ≡ format.answer_text Pinned library (input_view input.now) results.now) }
 {
     let mut text = Vec::new(alloc);
-    put_head(&mut text, VERSION, PINNED, &input.table, input.builtin)?;
+    put_head(
+        alloc,
+        &mut text,
+        VERSION,
+        PINNED,
+        &input.table,
+        input.builtin,
+        library,
+    )?;
     let goals = input.goals.as_slice();
     for (at, answered) in results.iter().enumerate() {
         let goal = claimed(&goals[at].name, answered);
@@ -121,15 +136,21 @@ fn print(alloc: Global, input: &Input, results: &[Answered]) -> Result<Vec<u8>, 
     Ok(text)
 }
 
-/// The answer to an input, of which each goal has a result, and the status that the results ask for.
-pub fn answer_text(alloc: Global, input: &Input, results: &[Answered]) -> Result<Report, NoMemory>
+/// The answer to an input, of which each goal has a result that was found with the library's rules, and the status that
+/// the results ask for.
+pub fn answer_text(
+    alloc: Global,
+    library: Library,
+    input: &Input,
+    results: &[Answered],
+) -> Result<Report, NoMemory>
     requires { length results.now ≡ length input.now.goals }
     ensures bytes { IfOk result (λ report. report.bytes.items
-        ≡ format.answer_text Pinned (input_view input.now) results.now) }
+        ≡ format.answer_text Pinned library (input_view input.now) results.now) }
     ensures status { IfOk result (λ report. report.status ≡ texts.greatest_status results.now) }
 {
     Ok(Report {
-        bytes: print(alloc, input, results)?,
+        bytes: print(alloc, library, input, results)?,
         status: greatest_status(results),
     })
 }

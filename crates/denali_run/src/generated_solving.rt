@@ -10,6 +10,7 @@ ghost use Rattle.cycle_encoding.specs.declared.encodings.Encoding.TheVariants.{P
 use crate::results::{Answered, Found};
 use crate::settings::{Pick, Settings};
 use crate::text_solving::solve_input;
+use axiom_library::Library;
 use generated_goals::{
     generated, generated_goals_can_be_scheduled, generated_goals_have_a_world,
     generated_inputs_are_well_formed,
@@ -31,6 +32,7 @@ fn generated_settings() -> Settings
         cycles: MOST_CYCLES,
         conflicts: 20000,
         pick: Pick::First,
+        library: Library::none(),
     }
 }
 

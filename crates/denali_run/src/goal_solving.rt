@@ -54,7 +54,7 @@ pub fn solve_goal<F: Rule>(
     ensures right { IfOk result (λ answered. (goal : GoalTree) → slice_get (input_view input.now).goals at ≡ Some goal
         → Right Pinned (input_view input.now) goal settings.now answered) }
 {
-    let rules = rules(alloc, input)?;
+    let rules = rules(alloc, input, settings.library)?;
     solve_by_rules(alloc, input, &rules, at, settings, picker)
 }
 
@@ -68,7 +68,7 @@ pub(crate) fn solve_by_rules<F: Rule>(
     picker: &Picker<F>,
 ) -> Result<Answered, NoMemory>
     requires input { IsInput (input_view input.now) }
-    requires rules { rules.now.program ≡ rules_of (input_view input.now) }
+    requires rules { rules.now ≡ rules_of settings.now.library (input_view input.now) }
     requires at { at < length input.now.goals }
     requires settings { IsSettings settings.now }
     ensures right { IfOk result (λ answered. (goal : GoalTree) → slice_get (input_view input.now).goals at ≡ Some goal

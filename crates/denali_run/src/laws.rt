@@ -25,7 +25,7 @@ pub fn one_text_has_one_answer()
         → IsInput input → IsSettings s
         → AreRightResults e input s results
         → AreRightResults e input s others
-        → answer_text e input results ≡ answer_text e input others → results ≡ others }
+        → answer_text e s.library input results ≡ answer_text e s.library input others → results ≡ others }
 {
     words_and_instructions();
     printed_graphs_are_lines();
@@ -44,7 +44,7 @@ pub fn right_answers_are_read()
     ensures { (s : SettingsOf) (input : InputTree) (results : List AnsweredOf)
         → IsInput input → IsSettings s → StartsWithinFormat input
         → AreRightResults Pinned input s results
-        → ReadsAnswer (answer_text Pinned input results) (answer_to Pinned input results) }
+        → ReadsAnswer (answer_text Pinned s.library input results) (answer_to Pinned s.library input results) }
 {
     printed_answers_are_read();
     tables_keep_limits();

@@ -2,6 +2,7 @@
 ghost use Rattle.std.specs.Prelude.{◌<◌, length};
 ghost use Rattle.denali_run.specs.Picks.{PicksPlace};
 
+use axiom_library::Library;
 use pick_rule::{busiest_place, first_place, last_place};
 
 /// How the solver's next decision is picked among the free variables: `First` is the one with the least number, `Last`
@@ -30,7 +31,7 @@ impl Pick {
 
 /// The limits of the work on a goal: the most rounds, 0 to 16; the most rows of its graph, 1 to 4096, where a round
 /// that might pass them isn't begun; the most cycles, 0 to 24; the most conflicts of the solver for each number of
-/// cycles, 1 to 1000000.
+/// cycles, 1 to 1000000. The rules of `library` join those of the goal's text.
 #[derive(Clone, Copy, PartialEq, Eq, Debug)]
 pub struct Settings {
     pub rounds: u32,
@@ -38,4 +39,5 @@ pub struct Settings {
     pub cycles: u32,
     pub conflicts: u32,
     pub pick: Pick,
+    pub library: Library,
 }

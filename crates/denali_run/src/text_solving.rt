@@ -34,7 +34,7 @@ fn solve_goals<F: Rule>(
     ensures right { IfOk result (λ results. AreRightResults Pinned (input_view input.now)
         settings.now results.items) }
 {
-    let rules = rules(alloc, input)?;
+    let rules = rules(alloc, input, settings.library)?;
     let mut results = Vec::new(alloc);
     for at in 0..input.goals.len() {
         results.push(solve_by_rules(alloc, input, &rules, at as u32, settings, picker)?)?;
@@ -95,5 +95,5 @@ pub fn solve_text(alloc: Global, text: &[u8], settings: &Settings) -> Result<Rep
     right_answers_are_read();
     let input = read(alloc, text)?;
     let results = solve_input(alloc, &input, settings)?;
-    Ok(answer_text(alloc, &input, &results)?)
+    Ok(answer_text(alloc, settings.library, &input, &results)?)
 }

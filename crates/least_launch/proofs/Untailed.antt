@@ -4,7 +4,8 @@ use Rattle.std.specs.Prelude.{All}
 use Rattle.std.specs.List.{flat_map}
 use Rattle.std.proofs.lemmas.List.Concat.{flat_map-cons}
 use Rattle.std.proofs.lemmas.List.Elements.{All-cons, All-nil}
-use Rattle.answer_texts.specs.AnswerLines.{answer_lines, claim_part, counted_words, end_words, goal_lines, graph_part, inst_words, launch_words, launches_part, lemmas_part, refute_part, refuted_cycles, slot_words, table_lines, where_words, word_words}
+use Rattle.axiom_library.specs.declared.families.Family.{Family}
+use Rattle.answer_texts.specs.AnswerLines.{families_lines, listed_families, answer_lines, claim_part, counted_words, end_words, goal_lines, graph_part, inst_words, launch_words, launches_part, lemmas_part, refute_part, refuted_cycles, slot_words, table_lines, where_words, word_words}
 use Rattle.answer_texts.specs.declared.answers.AnswerText.{AnswerText}
 use Rattle.answer_texts.specs.declared.answers.Claim.{Claim}
 use Rattle.answer_texts.specs.declared.answers.Claim.TheVariants as claims
@@ -186,9 +187,14 @@ goals_untailed table (c ∷ goals) =
     subst AreUntailed (sym (flat_map-cons (goal_lines table) c goals))
     (and_lines _ (goal_untailed table c) (goals_untailed table goals))
 
+library_untailed : (fs : List Family) → AreUntailed (families_lines fs)
+library_untailed [] = no_lines
+library_untailed (f ∷ fs) = a_line (two_words _ _ _) no_lines
+
 pub answer_untailed : (a : AnswerText) → All Untailed (answer_lines a)
 answer_untailed a =
     each_line
     (a_line (two_words _ _ _)
     (a_line (two_words _ _ _)
-    (and_lines _ (table_untailed a.table a.builtin) (goals_untailed a.table a.goals))))
+    (and_lines _ (and_lines _ (table_untailed a.table a.builtin) (library_untailed (listed_families a.library)))
+    (goals_untailed a.table a.goals))))

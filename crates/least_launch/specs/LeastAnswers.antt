@@ -75,6 +75,6 @@ pub record AnswersLeast (s : Settings) (text bytes : List ℕ) (ending : Status)
   pub right : AreRightResults Pinned input s results
   pub said : List (Option Tail)
   pub each : AllZip (IsTailOf input.table s.conflicts) results said
-  pub bytes_are : bytes ≡ answer_text Pinned input results ++ lines_text (tail_lines said)
-  pub read_back : length text ≤ 2 ^ 20 → ReadsTailed bytes (answer_to Pinned input results) said
+  pub bytes_are : bytes ≡ answer_text Pinned s.library input results ++ lines_text (tail_lines said)
+  pub read_back : length text ≤ 2 ^ 20 → ReadsTailed bytes (answer_to Pinned s.library input results) said
   pub status_is : ending ≡ least_status results said

@@ -62,8 +62,8 @@ pub fn tailed_answers_are_read()
     ensures { (s : SettingsOf) (input : InputTree) (results : List AnsweredOf) (said : List (Option TailOf))
         → IsInput input → IsSettings s → StartsWithinFormat input
         → AreRightResults Pinned input s results → AllZip (IsTailOf input.table s.conflicts) results said
-        → ReadsTailed (answer_text Pinned input results ++ lines_text (tail_lines said))
-        (answer_to Pinned input results) said }
+        → ReadsTailed (answer_text Pinned s.library input results ++ lines_text (tail_lines said))
+        (answer_to Pinned s.library input results) said }
 {
     right_answers_are_read();
     printed_lines_are_lines();

@@ -220,5 +220,11 @@ pub fn solve_least_text(
     tailed_answers_are_read();
     let input = read(alloc, text)?;
     let solved = solve_least_input(alloc, &input, settings)?;
-    Ok(report_least(alloc, &input, &solved.results, &solved.said)?)
+    Ok(report_least(
+        alloc,
+        settings.library,
+        &input,
+        &solved.results,
+        &solved.said,
+    )?)
 }

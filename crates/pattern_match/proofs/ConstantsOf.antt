@@ -7,6 +7,7 @@ use Rattle.egraph.specs.Graph.{Graph, IsGraph, HasConstant, LacksConstant}
 use Rattle.std.proofs.lemmas.List.{get_or_default}
 use Rattle.std.proofs.lemmas.List.Elements.{all_zip_more}
 use Rattle.axiom_base.specs.Conditions.{IsCalc}
+use Rattle.axiom_base.specs.declared.kinds.Given.{Given}
 use Rattle.axiom_base.specs.Computed.{first_constant}
 use Rattle.axiom_base.specs.declared.kinds.Calc.{Calc}
 use Rattle.pattern_match.specs.Matches.{HaveConstants, AreGiven}
@@ -46,7 +47,7 @@ no_list g classes words i class l e lacks h = lacks (get_or words i 0) (subst (�
 pub constants_more : (g : Graph Op) (classes words : List ℕ) (i word : ℕ) → i < length classes → HaveConstants g (take i classes) words → HasConstant op_signature g.rows (get_or classes i 0) word → HaveConstants g (take (i + 1) classes) (words ++ word ∷ [])
 constants_more g classes words i word l h k = all_zip_more (λ c w. HasConstant op_signature g.rows c w) classes words i (get_or classes i 0) word l (get_or_default classes i 0 (get_or classes i 0) l) h k
 
-pub given_exactly : (g : Graph Op) → IsGraph op_signature g → (kind : Calc) (classes words : List ℕ) (r : Option ℕ) → HaveConstants g (drop (first_constant kind) classes) words →
-    MatchOption r ((e : ℕ) → IsCalc kind words e → ⊥) (IsCalc kind words) → MatchOption r ((e : ℕ) → AreGiven g kind classes e → ⊥) (AreGiven g kind classes)
-given_exactly g is kind classes words None h none = λ e a. none e (subst (λ ws. IsCalc kind ws e) (one_list g is (drop (first_constant kind) classes) a.words words a.constants h) a.calc)
-given_exactly g is kind classes words (Some e) h some = record { words = words; constants = h; calc = some }
+pub given_exactly : (g : Graph Op) → IsGraph op_signature g → (kind : Calc) (classes words : List ℕ) (r : Option Given) → HaveConstants g (drop (first_constant kind) classes) words →
+    MatchOption r ((given : Given) → IsCalc kind words given → ⊥) (IsCalc kind words) → MatchOption r ((given : Given) → AreGiven g kind classes given → ⊥) (AreGiven g kind classes)
+given_exactly g is kind classes words None h none = λ given a. none given (subst (λ ws. IsCalc kind ws given) (one_list g is (drop (first_constant kind) classes) a.words words a.constants h) a.calc)
+given_exactly g is kind classes words (Some given) h some = record { words = words; constants = h; calc = some }

@@ -6,6 +6,7 @@ use Rattle.word_terms.specs.Sorting.{Occurs, OccursInOne}
 use Rattle.egraph.specs.declared.rows.Row.{Row}
 use Rattle.axiom_base.specs.Computed.{calc_left, calc_right}
 use Rattle.axiom_base.specs.declared.kinds.Calc.{Calc}
+use Rattle.axiom_base.specs.declared.kinds.Given.{Given}
 use Rattle.egraph.specs.Graph.{Graph, HasClass}
 use Rattle.pattern_match.specs.Classes.{IsClass, AreClasses, HaveOneClass}
 use Rattle.pattern_match.specs.Found.{classes_in}
@@ -123,16 +124,16 @@ pub record IsSubstitution (g : Graph Op) (p : Tree Op) (count : ℕ) (cs : List 
   pub has : HasClass g class
   pub left : IsClass g cs p class
 
--- they give the constant e, and the right side that is made with it hasn't the match's class
-pub record IsUnmetGiven (g : Graph Op) (kind : Calc) (m : Match) (e : ℕ) : Type 0 where
-  pub given : AreGiven g kind m.classes e
-  pub unmet : ¬ IsClass g m.classes (calc_right kind e) m.class
+-- they give these constants, and the right side that is made with them hasn't the match's class
+pub record IsUnmetGiven (g : Graph Op) (kind : Calc) (m : Match) (given : Given) : Type 0 where
+  pub are : AreGiven g kind m.classes given
+  pub unmet : ¬ IsClass g m.classes (calc_right kind given) m.class
 
--- they give a constant under which the rule's right side hasn't the class of its left
+-- they give constants under which the rule's right side hasn't the class of its left
 pub record AreUnmet (g : Graph Op) (kind : Calc) (classes : List ℕ) : Type 0 where
-  pub e : ℕ
-  pub given : AreGiven g kind classes e
-  pub unmet : ¬ HaveOneClass g classes (calc_left kind) (calc_right kind e)
+  pub given : Given
+  pub are : AreGiven g kind classes given
+  pub unmet : ¬ HaveOneClass g classes (calc_left kind) (calc_right kind given)
 
 -- nothing is known of `count` variables
 pub record IsUnknown (count : ℕ) (b : Binding) : Type 0 where

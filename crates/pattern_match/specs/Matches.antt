@@ -12,6 +12,7 @@ use Rattle.axiom_base.specs.Schemes.{Scheme, computed, folding, IsOf, weight}
 use Rattle.axiom_base.specs.Conditions.{IsCalc, constants_of}
 use Rattle.axiom_base.specs.Computed.{first_constant, calc_right}
 use Rattle.axiom_base.specs.declared.kinds.Calc.{Calc}
+use Rattle.axiom_base.specs.declared.kinds.Given.{Given}
 use Rattle.egraph.specs.Graph.{Graph, IsGraph, HasClass, HasConstant}
 use Rattle.egraph.specs.declared.rows.Row.{Row}
 use Rattle.pattern_match.specs.Classes.{IsClass}
@@ -94,17 +95,17 @@ pub record CanGive (g : Graph Op) (kind : Calc) (classes : List ℕ) : Type 0 wh
   pub present : All (HasClass g) classes
   pub count : length classes ≡ variables_of kind
 
--- the classes behind those of other variables have constants that give e
-pub record AreGiven (g : Graph Op) (kind : Calc) (classes : List ℕ) (e : ℕ) : Type 0 where
+-- the classes behind those of other variables have constants that give these
+pub record AreGiven (g : Graph Op) (kind : Calc) (classes : List ℕ) (given : Given) : Type 0 where
   pub words : List ℕ
   pub constants : HaveConstants g (drop (first_constant kind) classes) words
-  pub calc : IsCalc kind words e
+  pub calc : IsCalc kind words given
 
--- the match is an unmet one of the kind's rule whose right side is made with the match's constant
+-- the match is an unmet one of the kind's rule whose right side is made with the match's constants
 pub record IsUnmetCalc (g : Graph Op) (kind : Calc) (m : Match) : Type 0 where
-  pub e : ℕ
-  pub given_is : m.given ≡ Some e
+  pub given : Given
+  pub given_is : m.given ≡ Some given
   pub rule : Rewrite
   pub of : IsOf (computed kind) rule
-  pub right_is : rule.right ≡ calc_right kind e
+  pub right_is : rule.right ≡ calc_right kind given
   pub unmet : IsUnmet g rule m.classes m.class

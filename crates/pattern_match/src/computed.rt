@@ -3,6 +3,7 @@ ghost use Rattle.std.specs.Prelude.{◌≡◌, ℕ, ◌^◌, ◌-◌, min, map, 
 ghost use Rattle.word_terms.specs.Keys.{op_signature};
 ghost use Rattle.axiom_base.specs.Computed as sides;
 ghost use Rattle.axiom_base.specs.Schemes.{computed};
+ghost use Rattle.axiom_base.specs.declared.kinds.Given.{Given as Constants};
 ghost use Rattle.egraph.specs.Graph.{IsGraph};
 ghost use Rattle.pattern_match.specs.Bindings.{AreMatches, IsSubstitution, IsUnmetGiven};
 ghost use Rattle.pattern_match.specs.ByOperator.{AreTables};
@@ -17,8 +18,8 @@ use crate::reading::has_class;
 use crate::row_lists::RowTables;
 use crate::searching::substitutions;
 use axiom_base::{
-    Calc, calc, calc_left, calc_right, computed_rules_are_true, constants, constants_are_numbered,
-    first_constant,
+    Calc, Given, calc, calc_left, calc_right, computed_rules_are_true, constants,
+    constants_are_numbered, first_constant,
 };
 use egraph::Egraph;
 use items::{Items, NoMemory};
@@ -69,7 +70,7 @@ pub fn find_calc_unmet(
     let matched = calc_substitutions(alloc, graph, tables, kind)?;
     let mut found = Vec::new(alloc);
     for one in &matched {
-        let given = unmet_constant(alloc, graph, kind, one)?;
+        let given = unmet_given(alloc, graph, kind, one)?;
         if given.is_some() {
             found.push(one.with(alloc, given)?)?;
         }
@@ -102,21 +103,21 @@ pub fn calc_need(alloc: Global, graph: &Egraph<Op>, kind: Calc) -> Result<u64, N
         (n : ℕ) × IsNeed graph.now (computed kind) n × (need ≡ min n (2 ^ 64 - 1))) }
 {
     let found = calc_unmet(alloc, graph, kind)?;
-    let right = calc_right(alloc, kind, 0)?;
+    let right = calc_right(alloc, kind, Given { e: 0, f: 0 })?;
     Ok((found.len() as u64).saturating_mul(operators(&right)))
 }
 
-// The constant e that the constants of the classes of c and d give, or `None` where one of these classes has no
-// constant or they don't meet the condition.
+// The constants that those of the classes of c and d give, or `None` where one of these classes has no constant or they
+// don't meet the condition.
 fn calc_given(
     alloc: Global,
     graph: &Egraph<Op>,
     kind: Calc,
     classes: &[u32],
-) -> Result<Option<u64>, NoMemory>
+) -> Result<Option<Given>, NoMemory>
     requires { CanGive graph.now kind classes.now }
     ensures { IfOk result (λ found. MatchOption found
-        ((e : ℕ) → ¬ AreGiven graph.now kind classes.now e)
+        ((given : Constants) → ¬ AreGiven graph.now kind classes.now given)
         (AreGiven graph.now kind classes.now)) }
 {
     let Some(words) = constants_at(alloc, graph, &classes[first_constant(kind)..])? else {
@@ -125,27 +126,27 @@ fn calc_given(
     Ok(calc(kind, &words))
 }
 
-// The constant e of a match, where the right side that it makes isn't in the class of the left side.
-fn unmet_constant(
+// The constants of a match, where the right side that they make isn't in the class of the left side.
+fn unmet_given(
     alloc: Global,
     graph: &Egraph<Op>,
     kind: Calc,
     one: &Match,
-) -> Result<Option<u64>, NoMemory>
+) -> Result<Option<Given>, NoMemory>
     requires can { CanGive graph.now kind one.now.classes }
     ensures { IfOk result (λ found. MatchOption found
-        ((e : ℕ) → ¬ IsUnmetGiven graph.now kind one.now e)
+        ((given : Constants) → ¬ IsUnmetGiven graph.now kind one.now given)
         (IsUnmetGiven graph.now kind one.now)) }
 {
     computed_rules_are_true();
     let classes = one.classes.as_slice();
-    let Some(e) = calc_given(alloc, graph, kind, classes)? else {
+    let Some(given) = calc_given(alloc, graph, kind, classes)? else {
         return Ok(None);
     };
-    let right = calc_right(alloc, kind, e)?;
+    let right = calc_right(alloc, kind, given)?;
     if has_class(alloc, graph, &right, classes, one.class)? {
         Ok(None)
     } else {
-        Ok(Some(e))
+        Ok(Some(given))
     }
 }

@@ -55,12 +55,12 @@ pub record AnswersBlocks (s : Settings) (p : ProcTree) (bytes : List ℕ) (endin
   pub right : AreRightResults Pinned (input_of_proc p) s results
   pub behind : List Words
   pub are_behind : AreBehind p results behind
-  pub bytes_are : bytes ≡ answer_text Pinned (input_of_proc p) results ++ lines_text behind
+  pub bytes_are : bytes ≡ answer_text Pinned s.library (input_of_proc p) results ++ lines_text behind
   pub status_is : ending ≡ greatest_status results
   pub has_world : ending ≢ status.NoWorld
   pub read_back :
       StartsWithinFormat (input_of_proc p)
-      → ReadsAnswer (answer_text Pinned (input_of_proc p) results) (answer_to Pinned (input_of_proc p) results)
+      → ReadsAnswer (answer_text Pinned s.library (input_of_proc p) results) (answer_to Pinned s.library (input_of_proc p) results)
 
 -- the text reads as a proc, of which this is the answer
 pub record AnswersProc (s : Settings) (text bytes : List ℕ) (ending : Status) : Type 0 where

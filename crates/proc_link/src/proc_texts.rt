@@ -66,7 +66,7 @@ fn solve_proc(alloc: Global, proc: &Proc, settings: &Settings) -> Result<Report,
     right_answers_are_read();
     let input = input_of(alloc, proc)?;
     let results = solve_input(alloc, &input, settings)?;
-    let answer = answer_text(alloc, &input, &results)?;
+    let answer = answer_text(alloc, settings.library, &input, &results)?;
     let mut bytes = answer.bytes;
     put_behind(alloc, &mut bytes, proc, &results)?;
     Ok(Report {

@@ -27,13 +27,13 @@ one_more P (x ∷ cs) (y ∷ ds) c d z p = (z.0, one_more P cs ds c d z.1 p)
 pub record AreTrimmedTo (a : AnswerText) (at : ℕ) (text : List ℕ) : Type 0 where
   pub goals : List Claimed
   pub each : AreTrimmedGoals a (take at a.goals) goals
-  pub is : text ≡ lines_text (head_lines a.version a.encoding a.table a.builtin) ++ lines_text (flat_map (goal_lines a.table) goals)
+  pub is : text ≡ lines_text (head_lines a.version a.encoding a.table a.builtin a.library) ++ lines_text (flat_map (goal_lines a.table) goals)
 
-pub trimmed_none : (a : AnswerText) (text : List ℕ) → text ≡ lines_text (head_lines a.version a.encoding a.table a.builtin) → AreTrimmedTo a 0 text
+pub trimmed_none : (a : AnswerText) (text : List ℕ) → text ≡ lines_text (head_lines a.version a.encoding a.table a.builtin a.library) → AreTrimmedTo a 0 text
 trimmed_none a text is = record {
   goals = [];
   each = tt;
-  is = is ∙ sym (append-nil (lines_text (head_lines a.version a.encoding a.table a.builtin)));
+  is = is ∙ sym (append-nil (lines_text (head_lines a.version a.encoding a.table a.builtin a.library)));
 }
 
 goal_behind : (table : Table) (goals : List Claimed) (c : Claimed) → lines_text (flat_map (goal_lines table) (goals ++ c ∷ [])) ≡ lines_text (flat_map (goal_lines table) goals) ++ lines_text (goal_lines table c)
@@ -43,7 +43,7 @@ goal_behind table goals c =
 
 pub trimmed_more : (a : AnswerText) (shown : List Claimed) (at : ℕ) (text new : List ℕ) (c : Claimed) → shown ≡ a.goals → at < length shown → c ≡ get_or shown at c → AreTrimmedTo a at text → IsPutTrimmed (encoding_named a.encoding) a.table c text new → AreTrimmedTo a (at + 1) new
 trimmed_more a shown at text new c same lt is so_far put =
-    let head = lines_text (head_lines a.version a.encoding a.table a.builtin) in
+    let head = lines_text (head_lines a.version a.encoding a.table a.builtin a.library) in
     let d = record c { refute = put.refute } in
     let here : c ≡ get_or a.goals at c = subst (λ (gs : List Claimed). c ≡ get_or gs at c) same is in
     let within : at < length a.goals = subst (λ (gs : List Claimed). at < length gs) same lt in
@@ -65,7 +65,7 @@ trimmed_all a at text end all =
       each = subst (λ (cs : List Claimed). AreTrimmedGoals a cs all.goals) (take_all at a.goals end) all.each;
       is = refl;
     })
-    (all.is ∙ sym (flat_map-append line_text (head_lines a.version a.encoding a.table a.builtin) (flat_map (goal_lines a.table) all.goals)))
+    (all.is ∙ sym (flat_map-append line_text (head_lines a.version a.encoding a.table a.builtin a.library) (flat_map (goal_lines a.table) all.goals)))
 
 pub rejected_at : (a : AnswerText) (shown : List Claimed) (at : ℕ) (text bytes : List ℕ) (c : Claimed) (v : Verdict) → shown ≡ a.goals → at < length shown → c ≡ get_or shown at c → AreTrimmedTo a at text → IsRejectedGoal (encoding_named a.encoding) a.table c v → bytes ≡ line_text (verdict_words c v) → IsTrimReport a bytes Missing
 rejected_at a shown at text bytes c v same lt is so_far bad printed =

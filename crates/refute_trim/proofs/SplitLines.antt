@@ -72,7 +72,7 @@ split e table (c ∷ cs) (d ∷ ds) z =
 
 by_report : (a : AnswerText) (text bytes : List ℕ) {status : Status} → text ≡ answer_bytes a → IsTrimReport a bytes status → status ≡ Done → DifferInRefutations text bytes
 by_report a text bytes is (trimmed whole printed) done =
-    let head = head_lines a.version a.encoding a.table a.builtin in
+    let head = head_lines a.version a.encoding a.table a.builtin a.library in
     let s = split (encoding_named a.encoding) a.table a.goals whole.goals whole.each in
     record {
       head = head;

@@ -86,11 +86,13 @@ fn trim_answer(alloc: Global, answer: &AnswerText) -> Result<Report, NoMemory>
     let encoding = encoding_named(answer.encoding);
     let mut text = Vec::new(alloc);
     put_head(
+        alloc,
         &mut text,
         answer.version,
         answer.encoding,
         &answer.table,
         answer.builtin,
+        answer.library,
     )?;
     for goal in answer.goals.as_slice() {
         if let Some(verdict) = put_trimmed(alloc, &mut text, encoding, &answer.table, goal)? {

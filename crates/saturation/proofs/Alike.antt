@@ -5,7 +5,7 @@ use Rattle.std.proofs.lemmas.List.Elements.{All-head, All-tail}
 use Rattle.word_ops.specs.declared.sorts.Op.{Op}
 use Rattle.word_terms.specs.Keys.{op_signature}
 use Rattle.word_terms.specs.Tree.{Tree, Trees, application, none, more}
-use Rattle.axiom_base.specs.Rewrites.{Rewrite}
+use Rattle.axiom_base.specs.Schemes.{AddedRules}
 use Rattle.word_terms.specs.Building.{constant}
 use Rattle.egraph.specs.Graph.{Graph, HasClass, IsGraph}
 use Rattle.egraph.specs.declared.rows.Row.{Row}
@@ -17,17 +17,17 @@ use Rattle.saturation.proofs.Classes.{one_class}
 use Rattle.saturation.proofs.Graphs.{operands_have}
 use Rattle.saturation.proofs.Round.{grown_has_no_clash}
 
-module _ (axioms : List Rewrite) (present : List (Tree Op)) (equal : List Pair) where
-  later_by : (k i : ℕ) (t u : Tree Op) → Derives axioms present equal i t u → Derives axioms present equal (i + k) t u
-  later_by zero i t u d = let e : i ≡ i + 0 = omega arith in subst (λ n. Derives axioms present equal n t u) e d
-  later_by (suc k) i t u d = let e : i + k + 1 ≡ i + suc k = omega arith in subst (λ n. Derives axioms present equal n t u) e (later (later_by k i t u d))
+module _ (added : AddedRules) (present : List (Tree Op)) (equal : List Pair) where
+  later_by : (k i : ℕ) (t u : Tree Op) → Derives added present equal i t u → Derives added present equal (i + k) t u
+  later_by zero i t u d = let e : i ≡ i + 0 = omega arith in subst (λ n. Derives added present equal n t u) e d
+  later_by (suc k) i t u d = let e : i + k + 1 ≡ i + suc k = omega arith in subst (λ n. Derives added present equal n t u) e (later (later_by k i t u d))
 
-  pub no_clash : (g : Graph Op) (j i a b : ℕ) → IsGraph op_signature g → IsGrown axioms present equal g j → i ≤ j → IsClash axioms present equal i a b → ⊥
+  pub no_clash : (g : Graph Op) (j i a b : ℕ) → IsGraph op_signature g → IsGrown added present equal g j → i ≤ j → IsClash added present equal i a b → ⊥
   no_clash g j i a b is grown l clash =
       let e : i + (j - i) ≡ j = omega (arith, l) in
-      clash.differ (grown_has_no_clash axioms present equal j g is grown a b (subst (λ n. Derives axioms present equal n (constant a) (constant b)) e (later_by (j - i) i (constant a) (constant b) clash.derived)))
+      clash.differ (grown_has_no_clash added present equal j g is grown a b (subst (λ n. Derives added present equal n (constant a) (constant b)) e (later_by (j - i) i (constant a) (constant b) clash.derived)))
 
-  module _ (g h : Graph Op) (j : ℕ) (is : IsGraph op_signature g) (first : IsGrown axioms present equal g j) (second : IsGrown axioms present equal h j) where
+  module _ (g h : Graph Op) (j : ℕ) (is : IsGraph op_signature g) (first : IsGrown added present equal g j) (second : IsGrown added present equal h j) where
     terms_of : (cs : List ℕ) → All (HasClass g) cs → (ts : Trees Op) × AreClasses g [] ts cs
     terms_of [] a = (none, no_classes)
     terms_of (c ∷ cs) a =
@@ -62,7 +62,7 @@ module _ (axioms : List Rewrite) (present : List (Tree Op)) (equal : List Pair) 
         let k = (second.exact a.term b.term).1 ((first.exact a.term b.term).0 (record { class = c; first = a.first; second = b.first })) in
         one_class h second.distinct [] a.second k.first ∙ one_class h second.distinct [] k.second b.second
 
-  pub alike : (g h : Graph Op) (j : ℕ) → IsGraph op_signature g → IsGraph op_signature h → IsGrown axioms present equal g j → IsGrown axioms present equal h j → AreAlike g h
+  pub alike : (g h : Graph Op) (j : ℕ) → IsGraph op_signature g → IsGraph op_signature h → IsGrown added present equal g j → IsGrown added present equal h j → AreAlike g h
   alike g h j is other first second = record {
     rows = each_row g h j is first second;
     back = each_row h g j other second first;

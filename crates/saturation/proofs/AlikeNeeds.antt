@@ -7,7 +7,7 @@ use Rattle.word_ops.specs.declared.sorts.Op.{Op}
 use Rattle.word_terms.specs.Keys.{op_signature}
 use Rattle.word_terms.specs.Tree.{Tree, Trees, variable, application, none, more}
 use Rattle.axiom_base.specs.Rewrites.{Rewrite, IsUsable}
-use Rattle.axiom_base.specs.Schemes.{Scheme, schemes, weight, IsOf, IsRuleOf}
+use Rattle.axiom_base.specs.Schemes.{AddedRules, Scheme, schemes, weight, IsOf, IsRuleOf}
 use Rattle.egraph.specs.Graph.{Graph, HasClass, HasConstant, IsGraph}
 use Rattle.egraph.specs.declared.rows.Row.{Row}
 use Rattle.pattern_match.specs.Classes.{IsClass, AreClasses, at_variable, at_row, no_classes, classes}
@@ -182,38 +182,38 @@ module _ (g h : Graph Op) (like : AreAlike g h) where
       (λ r k. let s = like.rows r k in (s.0, s.1, (s.2, s.4)))
       (λ i j d l k s a b. is.distinct i j d l k (record { op = sym a.0 ∙ b.0; operands = same_left g h like (get_or g.rows i d).operands (get_or g.rows j d).operands s.operands a.1 b.1 }))
 
-quiet_over : (g h : Graph Op) → AreAlike g h → (axioms : List Rewrite) → ((s : Scheme) → Contains (schemes axioms) s → AreUsable s) → IsQuiet axioms g → IsQuiet axioms h
-quiet_over g h like axioms usable quiet s there ds u =
+quiet_over : (g h : Graph Op) → AreAlike g h → (added : AddedRules) → ((s : Scheme) → Contains (schemes added) s → AreUsable s) → IsQuiet added g → IsQuiet added h
+quiet_over g h like added usable quiet s there ds u =
     let back = turned g h like in
     let p = places_over h g back ds u.unmet.match.present in
     quiet s there p.0 (unmet_of_over h g back s (usable s there) ds p.0 p.1 u)
 
 -- ---- where rounds end
 
-module _ (axioms : List Rewrite) (usable : (r : Rewrite) → IsRuleOf axioms r → IsUsable r) (present : List (Tree Op)) (equal : List Pair) (rounds nodes : ℕ) where
-  each_usable : (s : Scheme) → Contains (schemes axioms) s → AreUsable s
+module _ (added : AddedRules) (usable : (r : Rewrite) → IsRuleOf added r → IsUsable r) (present : List (Tree Op)) (equal : List Pair) (rounds nodes : ℕ) where
+  each_usable : (s : Scheme) → Contains (schemes added) s → AreUsable s
   each_usable s there r of = usable r (record { scheme = s; there = there; of = of })
 
-  goes_or_halts : (i : ℕ) → GoesOnGrowing axioms present equal rounds nodes i → ¬ Halts axioms present equal rounds nodes i
+  goes_or_halts : (i : ℕ) → GoesOnGrowing added present equal rounds nodes i → ¬ Halts added present equal rounds nodes i
   goes_or_halts i on end =
-      let like = alike axioms present equal end.graph on.graph i end.is_graph on.is_graph end.grown on.grown in
+      let like = alike added present equal end.graph on.graph i end.is_graph on.is_graph end.grown on.grown in
       elim end.ends [
-        | inl quiet ↦ on.unmet (quiet_over end.graph on.graph like axioms each_usable quiet)
+        | inl quiet ↦ on.unmet (quiet_over end.graph on.graph like added each_usable quiet)
         | inr k ↦ elim k [
           | inl last ↦ on.asked last
           | inr full ↦
               (let rows = rows_over end.graph on.graph like end.is_graph in
-              let needs = needs_over end.graph on.graph like (schemes axioms) full.need on.within.need each_usable full.is on.within.is in
+              let needs = needs_over end.graph on.graph like (schemes added) full.need on.within.need each_usable full.is on.within.is in
               let passed = full.passed in
               let within = on.within.within in
               omega (arith, rows, needs, passed, within))
         ]
       ]
 
-  pub none_before : (i j : ℕ) → NotBefore axioms present equal rounds nodes j → i < j → ¬ Halts axioms present equal rounds nodes i
+  pub none_before : (i j : ℕ) → NotBefore added present equal rounds nodes j → i < j → ¬ Halts added present equal rounds nodes i
   none_before i j on l = goes_or_halts i (on i l)
 
-pub halts_with : (axioms : List Rewrite) (present : List (Tree Op)) (equal : List Pair) (g : Graph Op) (rounds nodes j : ℕ) (stop : Stop) → IsGraph op_signature g → IsGrown axioms present equal g j → StopIs axioms g rounds nodes j stop → Halts axioms present equal rounds nodes j
-halts_with axioms present equal g rounds nodes j Quiet is grown h = record { graph = g; is_graph = is; grown = grown; ends = inl h }
-halts_with axioms present equal g rounds nodes j Rounds is grown h = record { graph = g; is_graph = is; grown = grown; ends = inr (inl h.1) }
-halts_with axioms present equal g rounds nodes j Full is grown h = record { graph = g; is_graph = is; grown = grown; ends = inr (inr h.2) }
+pub halts_with : (added : AddedRules) (present : List (Tree Op)) (equal : List Pair) (g : Graph Op) (rounds nodes j : ℕ) (stop : Stop) → IsGraph op_signature g → IsGrown added present equal g j → StopIs added g rounds nodes j stop → Halts added present equal rounds nodes j
+halts_with added present equal g rounds nodes j Quiet is grown h = record { graph = g; is_graph = is; grown = grown; ends = inl h }
+halts_with added present equal g rounds nodes j Rounds is grown h = record { graph = g; is_graph = is; grown = grown; ends = inr (inl h.1) }
+halts_with added present equal g rounds nodes j Full is grown h = record { graph = g; is_graph = is; grown = grown; ends = inr (inr h.2) }

@@ -6,7 +6,7 @@ use Rattle.word_terms.specs.Tree.{Tree, substituted}
 use Rattle.word_terms.specs.Sorting.{HasSort}
 use Rattle.axiom_base.specs.Rewrites.{Rewrite}
 use Rattle.word_terms.specs.Building.{constant}
-use Rattle.axiom_base.specs.Schemes.{IsRuleOf, schemes}
+use Rattle.axiom_base.specs.Schemes.{AddedRules, IsRuleOf, schemes}
 use Rattle.egraph.specs.Graph.{Graph, IsGraph}
 use Rattle.pattern_match.specs.Classes.{IsClass, at_row, no_classes}
 use Rattle.pattern_match.specs.Matches.{IsMatch}
@@ -17,17 +17,17 @@ use Rattle.saturation.proofs.Made.{IsJustified}
 use Rattle.saturation.proofs.OneRule.{AreNumbered, GiveOne, one_rule, one_match}
 
 -- what is asked comes of matches, and each match that isn't met is asked for
-pub record Asks (axioms : List Rewrite) (g : Graph Op) (asked : List Asked) : Type 0 where
-  pub each : All (λ (a : Asked). (r : Rewrite) × IsRuleOf axioms r × ((places : List ℕ) × IsMatch g r places a.class × AsksFor r places a)) asked
+pub record Asks (added : AddedRules) (g : Graph Op) (asked : List Asked) : Type 0 where
+  pub each : All (λ (a : Asked). (r : Rewrite) × IsRuleOf added r × ((places : List ℕ) × IsMatch g r places a.class × AsksFor r places a)) asked
   pub all :
       (r : Rewrite) →
-      IsRuleOf axioms r →
+      IsRuleOf added r →
       (places : List ℕ) (c : ℕ) →
       IsMatch g r places c →
       IsClass g places r.right c ⊎ ((a : Asked) × Contains asked a × (a.class ≡ c) × AsksFor r places a)
 
-pub asks_of : (numbers : AreNumbered) (one : GiveOne) (axioms : List Rewrite) (g : Graph Op) → IsGraph op_signature g → (asked : List Asked) → AreAsked g (schemes axioms) asked → Asks axioms g asked
-asks_of numbers one axioms g is asked are = record {
+pub asks_of : (numbers : AreNumbered) (one : GiveOne) (added : AddedRules) (g : Graph Op) → IsGraph op_signature g → (asked : List Asked) → AreAsked g (schemes added) asked → Asks added g asked
+asks_of numbers one added g is asked are = record {
   each = λ n d l.
       let h = are.each n d l in
       let o = h.2.1 in

@@ -7,7 +7,7 @@ use Rattle.word_ops.specs.declared.sorts.Sort.{Sort}
 use Rattle.word_ops.specs.Meanings.{sort_of, operand_sort}
 use Rattle.word_terms.specs.Keys.{op_signature}
 use Rattle.word_terms.specs.Tree.{Tree, Trees, variable, application, put_in, substituted, each_substituted}
-use Rattle.axiom_base.specs.Rewrites.{Rewrite}
+use Rattle.axiom_base.specs.Schemes.{AddedRules}
 use Rattle.word_terms.specs.Sorting.{HasSort, HaveSorts, sort_at}
 use Rattle.egraph.specs.declared.rows.Row.{Row}
 use Rattle.egraph.specs.Graph.{Graph, IsGraph, read_through, with_row}
@@ -112,9 +112,9 @@ among_substituted values first = first
 among_substituted values (rest h) = rest (among_substituted values h)
 
 -- what is built of an instance that is present keeps soundness, and no class is empty
-module _ (axioms : List Rewrite) (present : List (Tree Op)) (equal : List (Tree Op × Tree Op)) (j : ℕ) (values : List (Tree Op)) (places : List ℕ) where
+module _ (added : AddedRules) (present : List (Tree Op)) (equal : List (Tree Op × Tree Op)) (j : ℕ) (values : List (Tree Op)) (places : List ℕ) where
   abbrev D : Tree Op → Tree Op → Type 0
-  D = Derives axioms present equal j
+  D = Derives added present equal j
 
   abbrev Good : Graph Op → Type 0
   Good g = IsSound D g × AreInhabited g
@@ -133,7 +133,7 @@ module _ (axioms : List Rewrite) (present : List (Tree Op)) (equal : List (Tree 
           | inl old ↦ subst Good (sym old.1) then
           | inr new_row ↦
               subst Good (sym new_row.2) (
-                insert_sound D (derives_equality axioms present equal j) op_signature h ih then.0 op (read_through h cs) (each_substituted values ts) are d,
+                insert_sound D (derives_equality added present equal j) op_signature h ih then.0 op (read_through h cs) (each_substituted values ts) are d,
                 insert_inhabited h op (read_through h cs) (each_substituted values ts) are then.1,
               )
         ]

@@ -2,7 +2,7 @@
 use Rattle.std.proofs.Common.{◌≡◌, ℕ, List, [], Contains, AllPairs, subst, arith}
 use Rattle.word_ops.specs.declared.sorts.Op.{Op}
 use Rattle.word_terms.specs.Tree.{Tree, Trees, application, none, more}
-use Rattle.axiom_base.specs.Rewrites.{Rewrite}
+use Rattle.axiom_base.specs.Schemes.{AddedRules}
 use Rattle.egraph.specs.Graph.{Graph, Agree}
 use Rattle.pattern_match.specs.Classes.{IsClass, AreClasses, at_row, no_classes, classes, HaveOneClass}
 use Rattle.saturation.specs.Derives.{IsAmong, first, rest, Derives, DerivesEach, given, assumed, symmetric, transitive, later, operand, congruent, by_rule, no_operands, operands}
@@ -10,12 +10,12 @@ use Rattle.saturation.proofs.Classes.{one_class}
 use Rattle.saturation.proofs.Sound.{Each, each_none, each_one, IsEquality}
 
 -- what is derived at j is an equality that congruence does not leave
-module _ (axioms : List Rewrite) (present : List (Tree Op)) (equal : List (Tree Op × Tree Op)) (j : ℕ) where
-  derives_each : {ts us : Trees Op} → Each (Derives axioms present equal j) ts us → DerivesEach axioms present equal j ts us
+module _ (added : AddedRules) (present : List (Tree Op)) (equal : List (Tree Op × Tree Op)) (j : ℕ) where
+  derives_each : {ts us : Trees Op} → Each (Derives added present equal j) ts us → DerivesEach added present equal j ts us
   derives_each each_none = no_operands
   derives_each (each_one d e) = operands d (derives_each e)
 
-  pub derives_equality : IsEquality (Derives axioms present equal j)
+  pub derives_equality : IsEquality (Derives added present equal j)
   derives_equality = record {
     turn = λ d. symmetric d;
     join = λ d e. transitive d e;
@@ -56,10 +56,10 @@ module _ {O : Type 0} (g : Graph O) (apart : AllPairs (λ r t. ¬ Agree r t) g.r
   congruent_class h p = record { class = h.class; first = h.first; second = other h.first p }
 
 -- at the start each given term has a class, and each pair one class, so each equality derived then is in the graph
-module _ (axioms : List Rewrite) (present : List (Tree Op)) (equal : List (Tree Op × Tree Op)) (g : Graph Op) (apart : AllPairs (λ r t. ¬ Agree r t) g.rows)
+module _ (added : AddedRules) (present : List (Tree Op)) (equal : List (Tree Op × Tree Op)) (g : Graph Op) (apart : AllPairs (λ r t. ¬ Agree r t) g.rows)
     (have : (t : Tree Op) → Contains present t → HaveOneClass g [] t t) (same : (t u : Tree Op) → Contains equal (t, u) → HaveOneClass g [] t u) where
   mutual
-    pub complete_at_start : {j : ℕ} {t u : Tree Op} → Derives axioms present equal j t u → j ≡ 0 → HaveOneClass g [] t u
+    pub complete_at_start : {j : ℕ} {t u : Tree Op} → Derives added present equal j t u → j ≡ 0 → HaveOneClass g [] t u
     complete_at_start (given t h) e = have t h
     complete_at_start (assumed t u h) e = same t u h
     complete_at_start (symmetric d) e = one_back g apart (complete_at_start d e)
@@ -69,6 +69,6 @@ module _ (axioms : List Rewrite) (present : List (Tree Op)) (equal : List (Tree 
     complete_at_start (congruent d f) e = congruent_class g apart (complete_at_start d e) (complete_each_at_start f e)
     complete_at_start (by_rule r values is d f) e = absurd (omega arith)
 
-    complete_each_at_start : {j : ℕ} {ts us : Trees Op} → DerivesEach axioms present equal j ts us → j ≡ 0 → Pairs g apart ts us
+    complete_each_at_start : {j : ℕ} {ts us : Trees Op} → DerivesEach added present equal j ts us → j ≡ 0 → Pairs g apart ts us
     complete_each_at_start no_operands e = no_pair
     complete_each_at_start (operands d f) e = one_pair (complete_at_start d e) (complete_each_at_start f e)

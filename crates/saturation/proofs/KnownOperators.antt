@@ -1,11 +1,12 @@
--- Rounds make no operator that the goal and its axioms don't have, but for those that every text has.
+-- Rounds make no operator that the goal and its axioms don't have, but for those that need no declaration.
 use Rattle.std.proofs.Common.{◌≡◌, ℕ, zero, suc, ◌+◌, ◌<◌, ◌^◌, Bool, true, false, ◌&&◌, Option, Some, None, List, [], ◌∷◌, ◌++◌, length, map, refl, sym, subst, inl, inr, arith, All, Contains}
 use Rattle.std.specs.List.{list_all, flat_map, range_with_len}
 use Rattle.std.specs.Prelude.{IfSome}
 use Rattle.std.proofs.lemmas.Bool.{cases_lt}
-use Rattle.std.proofs.lemmas.List.{get_or_past}
+use Rattle.std.proofs.lemmas.List.{get_or_past, map-append}
 use Rattle.std.proofs.lemmas.List.Elements.{All-nil, All-cons, All-head, All-tail, All-append, All-map, All-weaker, All-contains, All-get_or, All-contains_itself, Contains-append_left, Contains-append_right, Contains-append_cases}
 use Rattle.word_ops.specs.Operators.{operators}
+use Rattle.word_ops.specs.declared.sorts.Arity.{Arity}
 use Rattle.word_ops.specs.declared.sorts.Sort.{Sort}
 use Rattle.word_ops.specs.declared.sorts.Sort.TheVariants as sorts
 use Rattle.word_ops.specs.declared.sorts.Op.{Op}
@@ -17,15 +18,21 @@ use Rattle.word_terms.specs.Tree.{Tree, Trees, variable, application, none, more
 use Rattle.axiom_base.specs.Rewrites.{Rewrite, IsRule, IsUsable}
 use Rattle.axiom_base.specs.Equations.{equations}
 use Rattle.axiom_base.specs.Computed.{calc_right}
-use Rattle.axiom_base.specs.Schemes.{Scheme, IsOf, IsRuleOf, schemes, calc_kinds, plain, computed, folding, itself, calculated, folded}
+use Rattle.axiom_base.specs.Schemes.{AddedRules, Scheme, IsOf, IsRuleOf, schemes, calc_kinds, plain, computed, folding, itself, calculated, folded}
 use Rattle.axiom_base.specs.declared.kinds.Calc.{Calc}
-use Rattle.axiom_base.specs.declared.kinds.Calc.TheVariants.{C1, C2, C3, C4, C5, C6, C7, C8, C9, C10, C11, C12}
+use Rattle.axiom_base.specs.declared.kinds.Calc.TheVariants.{C1}
+use Rattle.axiom_base.specs.declared.kinds.Given.{Given}
+use Rattle.axiom_library.specs.Asked.{asked_axioms, asked_equations, equations_of}
+use Rattle.axiom_library.specs.Libraries.{families_of}
+use Rattle.axiom_library.specs.declared.families.Family.{Family}
+use Rattle.axiom_library.specs.declared.families.Family.TheVariants as families
+use Rattle.axiom_library.specs.declared.libraries.Library.{Library}
 use Rattle.egraph.specs.Graph.{Graph, IsGraph, HasClass}
 use Rattle.egraph.specs.declared.rows.Row.{Row}
 use Rattle.pattern_match.specs.Classes.{IsClass, AreClasses, at_row, no_classes, classes}
 use Rattle.goal_meaning.specs.Expanded.{expanded, let_terms}
 use Rattle.goal_meaning.specs.Views.{TwoTrees, TargetTree, GoalTree, AxiomTree, InputTree}
-use Rattle.goal_meaning.specs.WellFormed.{IsInput, IsGoal, IsAxiom, IsAssume, IsTarget, IsTermOver, IsOfGoal, IsOfAxiom}
+use Rattle.goal_meaning.specs.WellFormed.{IsInput, IsGoal, IsAxiom, IsAssume, IsTarget, IsTermOver, IsOfGoal, IsOfAxiom, IsDeclared}
 use Rattle.goal_meaning.specs.WellFormed.{input_registers, let_sorts}
 use Rattle.goal_meaning.specs.declared.goals.InputReg.{InputReg}
 use Rattle.goal_meaning.specs.declared.goals.DeclaredOp.{DeclaredOp}
@@ -119,19 +126,17 @@ all_by_test : {X : Type 0} (test : X → Bool) (xs : List X) → list_all test x
 all_by_test test [] e = All-nil (λ x. test x ≡ true)
 all_by_test test (x ∷ xs) e = let p = both (test x) (list_all test xs) e in All-cons (λ x. test x ≡ true) x xs p.0 (all_by_test test xs p.1)
 
-calc_common : (kind : Calc) (e : ℕ) → all_common (calc_right kind e) ≡ true
-calc_common C1 e = refl
-calc_common C2 e = refl
-calc_common C3 e = refl
-calc_common C4 e = refl
-calc_common C5 e = refl
-calc_common C6 e = refl
-calc_common C7 e = refl
-calc_common C8 e = refl
-calc_common C9 e = refl
-calc_common C10 e = refl
-calc_common C11 e = refl
-calc_common C12 e = refl
+library_common : (family : Family) → list_all right_common (equations_of family) ≡ true
+library_common families.Unaligned = refl
+library_common _ = refl
+
+all_flat_map : {X Y : Type 0} (P : Y → Type 0) (f : X → List Y) (xs : List X) → ((x : X) → All P (f x)) → All P (flat_map f xs)
+all_flat_map P f [] h = All-nil P
+all_flat_map P f (x ∷ xs) h = All-append P (f x) (flat_map f xs) (h x) (all_flat_map P f xs h)
+
+calc_common : (kind : Calc) (constants : Given) → all_common (calc_right kind constants) ≡ true
+calc_common C1 constants = refl
+calc_common _ constants = refl
 
 module _ (declared : List DeclaredOp) where
   known_common : (op : Op) → is_common op ≡ true → IsKnown declared op
@@ -170,16 +175,16 @@ module _ (declared : List DeclaredOp) where
   goal_known inputs low (Put access) k = tt
   goal_known inputs low (Declared i a) k = k
 
-  axiom_known : (op : Op) → IsOfAxiom declared op → IsKnown declared op
-  axiom_known Entry k = absurd k
-  axiom_known (Input r) k = absurd k
-  axiom_known (Constant c) k = tt
-  axiom_known (Word op) k = tt
-  axiom_known (Select access) k = tt
-  axiom_known (Store access) k = tt
-  axiom_known (Load access) k = tt
-  axiom_known (Put access) k = tt
-  axiom_known (Declared i a) k = k
+  axiom_known : (others : List DeclaredOp) → ((index : ℕ) (arity : Arity) → IsDeclared others index arity → IsDeclared declared index arity) → (op : Op) → IsOfAxiom others op → IsKnown declared op
+  axiom_known others h Entry k = absurd k
+  axiom_known others h (Input r) k = absurd k
+  axiom_known others h (Constant c) k = tt
+  axiom_known others h (Word op) k = tt
+  axiom_known others h (Select access) k = tt
+  axiom_known others h (Store access) k = tt
+  axiom_known others h (Load access) k = tt
+  axiom_known others h (Put access) k = tt
+  axiom_known others h (Declared i a) k = h i a k
 
   -- ---- rules
 
@@ -200,41 +205,56 @@ module _ (declared : List DeclaredOp) where
   equations_known : All RightKnown equations
   equations_known = All-weaker (λ r. right_common r ≡ true) RightKnown (λ r e. common_known r.right e) equations (all_by_test right_common equations all_equations)
 
-  axioms_known : (axioms : List AxiomTree) → All (IsAxiom declared) axioms → All RightKnown (map rule_of axioms)
-  axioms_known axioms are =
+  axioms_known : (others : List DeclaredOp) → ((index : ℕ) (arity : Arity) → IsDeclared others index arity → IsDeclared declared index arity) → (axioms : List AxiomTree) → All (IsAxiom others) axioms → All RightKnown (map rule_of axioms)
+  axioms_known others h axioms are =
       All-map RightKnown rule_of axioms
-      (All-weaker (IsAxiom declared) (λ a. RightKnown (rule_of a)) (λ a is. renumbered_known a a.right (each_weaker (IsOfAxiom declared) (IsKnown declared) axiom_known a.right is.right_operators)) axioms are)
+      (All-weaker (IsAxiom others) (λ a. RightKnown (rule_of a)) (λ a is. renumbered_known a a.right (each_weaker (IsOfAxiom others) (IsKnown declared) (axiom_known others h) a.right is.right_operators)) axioms are)
 
-  schemes_known : (axioms : List AxiomTree) → All (IsAxiom declared) axioms → All PlainKnown (schemes (map rule_of axioms))
-  schemes_known axioms are =
-      All-append PlainKnown (map plain equations ++ map plain (map rule_of axioms) ++ map computed calc_kinds) (map folding operators)
-      (All-append PlainKnown (map plain equations ++ map plain (map rule_of axioms)) (map computed calc_kinds)
-      (All-append PlainKnown (map plain equations) (map plain (map rule_of axioms))
+  of_library_known : (library : Library) → All RightKnown (asked_equations library)
+  of_library_known library = all_flat_map RightKnown equations_of (families_of library) (λ family. All-weaker (λ r. right_common r ≡ true) RightKnown (λ r e. common_known r.right e) (equations_of family) (all_by_test right_common (equations_of family) (library_common family)))
+
+  -- what a library asks for names no operator that is declared
+  added_known : (library : Library) (axioms : List AxiomTree) → All (IsAxiom declared) axioms → All (IsAxiom []) (asked_axioms library) → All RightKnown (map rule_of (axioms ++ asked_axioms library) ++ asked_equations library)
+  added_known library axioms are asked =
+      All-append RightKnown (map rule_of (axioms ++ asked_axioms library)) (asked_equations library)
+      (subst (All RightKnown) (sym (map-append rule_of axioms (asked_axioms library)))
+      (All-append RightKnown (map rule_of axioms) (map rule_of (asked_axioms library))
+      (axioms_known declared (λ i a k. k) axioms are)
+      (axioms_known [] (λ i a k. (let b = k.below in absurd (omega (arith, b)))) (asked_axioms library) asked)))
+      (of_library_known library)
+
+  schemes_known : (added : AddedRules) → All RightKnown added.axioms → All PlainKnown (schemes added)
+  schemes_known added are =
+      let axioms = added.axioms in
+      let kinds = calc_kinds ++ added.kinds in
+      All-append PlainKnown (map plain equations ++ map plain axioms ++ map computed kinds) (map folding operators)
+      (All-append PlainKnown (map plain equations ++ map plain axioms) (map computed kinds)
+      (All-append PlainKnown (map plain equations) (map plain axioms)
       (All-map PlainKnown plain equations equations_known)
-      (All-map PlainKnown plain (map rule_of axioms) (axioms_known axioms are)))
-      (All-map PlainKnown computed calc_kinds (λ k d l. tt)))
+      (All-map PlainKnown plain axioms are))
+      (All-map PlainKnown computed kinds (λ k d l. tt)))
       (All-map PlainKnown folding operators (λ k d l. tt))
 
-  scheme_known : (axioms : List AxiomTree) → All (IsAxiom declared) axioms → (s : Scheme) → Contains (schemes (map rule_of axioms)) s → (r : Rewrite) → IsOf s r → HasKnown r.right
-  scheme_known axioms are (plain r) h _ (itself _) = All-contains PlainKnown (schemes (map rule_of axioms)) (plain r) (schemes_known axioms are) h
-  scheme_known axioms are (computed kind) h _ (calculated _ cs e _) = common_known (calc_right kind e) (calc_common kind e)
-  scheme_known axioms are (folding op) h _ (folded _ cs _ _) = (tt, tt)
+  scheme_known : (added : AddedRules) → All RightKnown added.axioms → (s : Scheme) → Contains (schemes added) s → (r : Rewrite) → IsOf s r → HasKnown r.right
+  scheme_known added are (plain r) h _ (itself _) = All-contains PlainKnown (schemes added) (plain r) (schemes_known added are) h
+  scheme_known added are (computed kind) h _ (calculated _ cs constants _) = common_known (calc_right kind constants) (calc_common kind constants)
+  scheme_known added are (folding op) h _ (folded _ cs _ _) = (tt, tt)
 
-  rule_known : (axioms : List AxiomTree) → All (IsAxiom declared) axioms → (r : Rewrite) → IsRuleOf (map rule_of axioms) r → HasKnown r.right
-  rule_known axioms are r is = scheme_known axioms are is.scheme is.there r is.of
+  rule_known : (added : AddedRules) → All RightKnown added.axioms → (r : Rewrite) → IsRuleOf added r → HasKnown r.right
+  rule_known added are r is = scheme_known added are is.scheme is.there r is.of
 
   -- ---- what is derived
 
-  module _ (axioms : List AxiomTree) (are : All (IsAxiom declared) axioms) (usable : (r : Rewrite) → IsRuleOf (map rule_of axioms) r → IsUsable r)
+  module _ (added : AddedRules) (are : All RightKnown added.axioms) (usable : (r : Rewrite) → IsRuleOf added r → IsUsable r)
       (present : List (Tree Op)) (present_known : All HasKnown present) (equal : List Pair) (equal_known : All (λ (p : Pair). HasKnown p.0 × HasKnown p.1) equal) where
-    right_known : (r : Rewrite) (values : List (Tree Op)) → IsRuleOf (map rule_of axioms) r → HasKnown (substituted values r.left) → HasKnown (substituted values r.right)
+    right_known : (r : Rewrite) (values : List (Tree Op)) → IsRuleOf added r → HasKnown (substituted values r.left) → HasKnown (substituted values r.right)
     right_known r values is known =
         let use_of = usable r is in
-        substituted_has (IsKnown declared) values r.right (rule_known axioms are r is)
+        substituted_has (IsKnown declared) values r.right (rule_known added are r is)
         (λ n e. put_has (IsKnown declared) values r.left n (use_of.all n (occurs_below r.variables use_of.sort r.right n use_of.right e)) known)
 
     mutual
-      derived_known : {j : ℕ} {t u : Tree Op} → Derives (map rule_of axioms) present equal j t u → HasKnown t × HasKnown u
+      derived_known : {j : ℕ} {t u : Tree Op} → Derives added present equal j t u → HasKnown t × HasKnown u
       derived_known (given t h) = let k = All-contains HasKnown present t present_known h in (k, k)
       derived_known (assumed t u h) = All-contains (λ (p : Pair). HasKnown p.0 × HasKnown p.1) equal (t, u) equal_known h
       derived_known (symmetric d) = let k = derived_known d in (k.1, k.0)
@@ -244,7 +264,7 @@ module _ (declared : List DeclaredOp) where
       derived_known (congruent d each) = let k = (derived_known d).0 in (k, (k.0, (deriveds_known each).1))
       derived_known (by_rule r values is d constants) = let k = (derived_known d).0 in (k, right_known r values is k)
 
-      deriveds_known : {j : ℕ} {ts us : Trees Op} → DerivesEach (map rule_of axioms) present equal j ts us → EachOperatorOfAll (IsKnown declared) ts × EachOperatorOfAll (IsKnown declared) us
+      deriveds_known : {j : ℕ} {ts us : Trees Op} → DerivesEach added present equal j ts us → EachOperatorOfAll (IsKnown declared) ts × EachOperatorOfAll (IsKnown declared) us
       deriveds_known no_operands = (tt, tt)
       deriveds_known (operands d each) =
           let k = derived_known d in
@@ -325,12 +345,12 @@ classes_inhabited g inhabited (c ∷ cs) h =
     let ts = classes_inhabited g inhabited cs (All-tail (HasClass g) c cs h) in
     (more t.0 ts.0, classes t.1 ts.1)
 
-later_all : (axioms : List Rewrite) (present : List (Tree Op)) (equal : List Pair) (j : ℕ) (t u : Tree Op) → Derives axioms present equal 0 t u → Derives axioms present equal j t u
-later_all axioms present equal zero t u d = d
-later_all axioms present equal (suc j) t u d = let e : j + 1 ≡ suc j = omega arith in subst (λ n. Derives axioms present equal n t u) e (later (later_all axioms present equal j t u d))
+later_all : (added : AddedRules) (present : List (Tree Op)) (equal : List Pair) (j : ℕ) (t u : Tree Op) → Derives added present equal 0 t u → Derives added present equal j t u
+later_all added present equal zero t u d = d
+later_all added present equal (suc j) t u d = let e : j + 1 ≡ suc j = omega arith in subst (λ n. Derives added present equal n t u) e (later (later_all added present equal j t u d))
 
-pub can_be_launched : (input : InputTree) (goal : GoalTree) (graph : Graph Op) (j : ℕ) → ((axioms : List Rewrite) (r : Rewrite) → All IsRule axioms → IsRuleOf axioms r → IsUsable r) → All IsRule (rules_of input) → (IsGoal input.ops goal → Closed input.ops goal) → IsInput input → Contains input.goals goal → IsGraph op_signature graph → length graph.rows < 2 ^ 30 → IsGrown (rules_of input) (present_terms goal) (assumed_pairs goal) graph j → CanMakeLaunchGraph input.ops goal graph
-can_be_launched input goal graph j usable rules law is given_goal is_graph few grown =
+pub can_be_launched : (library : Library) (input : InputTree) (goal : GoalTree) (graph : Graph Op) (j : ℕ) → ((added : AddedRules) (r : Rewrite) → All IsRule added.axioms → IsRuleOf added r → IsUsable r) → All IsRule (rules_of library input).axioms → All (IsAxiom []) (asked_axioms library) → (IsGoal input.ops goal → Closed input.ops goal) → IsInput input → Contains input.goals goal → IsGraph op_signature graph → length graph.rows < 2 ^ 30 → IsGrown (rules_of library input) (present_terms goal) (assumed_pairs goal) graph j → CanMakeLaunchGraph input.ops goal graph
+can_be_launched library input goal graph j usable rules asked law is given_goal is_graph few grown =
     let goal_is = All-contains (IsGoal input.ops) input.goals goal is.goals given_goal in
     let closed = law goal_is in
     record {
@@ -342,9 +362,9 @@ can_be_launched input goal graph j usable rules law is given_goal is_graph few g
           let term = application r.op ts.0 in
           let class : IsClass graph [] term r.class = at_row ts.1 h in
           let derived = (grown.exact term term).0 (record { class = r.class; first = class; second = class }) in
-          (derived_known input.ops input.axioms is.axioms (λ q rule. usable (rules_of input) q rules rule) (present_terms goal) (present_known input.ops goal goal_is closed) (assumed_pairs goal) (equal_known input.ops goal goal_is closed) derived).0.0)
+          (derived_known input.ops (rules_of library input) (added_known input.ops library input.axioms is.axioms asked) (λ q rule. usable (rules_of library input) q rules rule) (present_terms goal) (present_known input.ops goal goal_is closed) (assumed_pairs goal) (equal_known input.ops goal goal_is closed) derived).0.0)
           graph.rows (All-contains_itself graph.rows);
       classes = λ t h.
-          let has = (grown.exact t t).1 (later_all (rules_of input) (present_terms goal) (assumed_pairs goal) j t t (given t (kept_present input.ops goal goal_is closed t h))) in
+          let has = (grown.exact t t).1 (later_all (rules_of library input) (present_terms goal) (assumed_pairs goal) j t t (given t (kept_present input.ops goal goal_is closed t h))) in
           (has.class, has.first);
     }

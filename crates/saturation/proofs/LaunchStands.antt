@@ -24,6 +24,7 @@ use Rattle.graph_meaning.specs.declared.graphs.InputClass.{InputClass}
 use Rattle.graph_meaning.specs.declared.graphs.SetClass.{SetClass}
 use Rattle.graph_meaning.specs.declared.graphs.Guard.{Guard}
 use Rattle.pattern_match.specs.Classes.{AreClasses, at_variable, at_row, no_classes, classes}
+use Rattle.axiom_library.specs.declared.libraries.Library.{Library}
 use Rattle.saturation.specs.GoalTerms.{entry_term, input_term, kept_terms, assumed_pairs, rules_of}
 use Rattle.saturation.specs.GraphStands.{GraphStands, RulesHold, IsTrueGraph}
 use Rattle.saturation.specs.Launched.{IsLaunched, row_in}
@@ -121,8 +122,8 @@ module _ (declared : List DeclaredOp) (goal : GoalTree) (graph : Graph Op) (g : 
     sets = sets_have g.sets (expanded goal).sets launched.of.sets;
   }
 
-pub stands_for : (input : InputTree) (goal : GoalTree) (graph : Graph Op) (g : LaunchGraph) → IsLaunched input.ops goal graph g → GraphStands (declared_name input.ops) (rules_of input) (assumed_pairs goal) (kept_terms goal) graph → ((world : World) → IsWorld world → HoldsFor input goal world → RulesHold world (declared_name input.ops) (rules_of input) (assumed_pairs goal)) → StandsFor input goal g
-stands_for input goal graph g launched stands rules = record {
+pub stands_for : (library : Library) (input : InputTree) (goal : GoalTree) (graph : Graph Op) (g : LaunchGraph) → IsLaunched input.ops goal graph g → GraphStands (declared_name input.ops) (rules_of library input) (assumed_pairs goal) (kept_terms goal) graph → ((world : World) → IsWorld world → HoldsFor input goal world → RulesHold world (declared_name input.ops) (rules_of library input) (assumed_pairs goal)) → StandsFor input goal g
+stands_for library input goal graph g launched stands rules = record {
   of = launched.of;
   values = λ world is holds.
       let v = stands.values world is (rules world is holds) in

@@ -17,7 +17,7 @@ use Rattle.word_terms.specs.Tree.{Tree, application, none, put_in, substituted, 
 use Rattle.word_terms.specs.View.{tree_of}
 use Rattle.word_terms.specs.declared.term.Term.{Term}
 use Rattle.axiom_base.specs.Rewrites.{Rewrite, IsRule, IsUsable}
-use Rattle.axiom_base.specs.Schemes.{IsRuleOf}
+use Rattle.axiom_base.specs.Schemes.{AddedRules, IsRuleOf}
 use Rattle.egraph.specs.Graph.{Graph}
 use Rattle.egraph.specs.declared.rows.Row.{Row}
 use Rattle.pattern_match.specs.Classes.{IsClass, at_variable, at_row, CanFindClass}
@@ -389,5 +389,5 @@ module _ (input : InputTree) (goal : Goal) (is_input : IsInput input) (given : C
       pub keeps_grown : KeepsGrown graph (graph_view input.ops g)
       keeps_grown = grown_to number graph (graph_view input.ops g) is_renamed
 
-      pub keeps_stop : ((axioms : List Rewrite) (r : Rewrite) → All IsRule axioms → IsRuleOf axioms r → IsUsable r) → KeepsStop graph (graph_view input.ops g)
-      keeps_stop usable axioms rounds nodes j stop are = stops_to number graph (graph_view input.ops g) is_renamed axioms (λ r. usable axioms r are) rounds nodes j stop
+      pub keeps_stop : ((added : AddedRules) (r : Rewrite) → All IsRule added.axioms → IsRuleOf added r → IsUsable r) → KeepsStop graph (graph_view input.ops g)
+      keeps_stop usable added rounds nodes j stop are = stops_to number graph (graph_view input.ops g) is_renamed added (λ r. usable added r are) rounds nodes j stop

@@ -6,7 +6,7 @@ use Rattle.word_ops.specs.declared.sorts.Op.TheVariants.{Constant}
 use Rattle.word_terms.specs.Keys.{op_signature}
 use Rattle.word_terms.specs.Laws.{op_constant_is_own, op_constant_takes_none}
 use Rattle.word_terms.specs.Tree.{Tree, substituted}
-use Rattle.axiom_base.specs.Rewrites.{Rewrite}
+use Rattle.axiom_base.specs.Schemes.{AddedRules}
 use Rattle.word_terms.specs.Building.{constant}
 use Rattle.egraph.specs.declared.rows.Row.{Row}
 use Rattle.egraph.specs.Graph.{Graph, IsGraph, HasConstant}
@@ -122,9 +122,9 @@ constant_class g is c x h =
     let row_is : h.row ≡ record { op = Constant x; operands = []; class = c } = λ i. record { op = e i; operands = nil i; class = h.of_class i } in
     at_row no_classes (subst (Contains g.rows) row_is h.there)
 
-module _ (axioms : List Rewrite) (present : List (Tree Op)) (equal : List (Tree Op × Tree Op)) (j : ℕ) where
+module _ (added : AddedRules) (present : List (Tree Op)) (equal : List (Tree Op × Tree Op)) (j : ℕ) where
   abbrev D : Tree Op → Tree Op → Type 0
-  D = Derives axioms present equal j
+  D = Derives added present equal j
 
   abbrev pub Good : Graph Op → Type 0
   Good g = IsSound D g × AreInhabited g
@@ -144,7 +144,7 @@ module _ (axioms : List Rewrite) (present : List (Tree Op)) (equal : List (Tree 
       let q' = justified_follows D g m (extends_follows op_signature g is m f) a q in
       let class = built_class a.places b is q.stand.made in
       record {
-        good = built_sound axioms present equal j q.values a.places b is good q.stand here;
+        good = built_sound added present equal j q.values a.places b is good q.stand here;
         class_made = class.0;
         justified = q';
         right = at_instance m (map (cur m) a.places) q.values (stand_each m a.places q.values q'.stand) class.1;
@@ -155,7 +155,7 @@ module _ (axioms : List Rewrite) (present : List (Tree Op)) (equal : List (Tree 
       let im = built_graph a.places h.built is in
       let m = middle a g h.middle h.class h.built is good q in
       let q' = m.justified in (
-        merge_sound D (derives_equality axioms present equal j) op_signature h.middle im m.good.0 m.good.1 h.class a.class m.class_made q'.class_made (substituted q'.values a.right) q'.left m.right q'.left_class (symmetric q'.equal) new h.joined.merged,
+        merge_sound D (derives_equality added present equal j) op_signature h.middle im m.good.0 m.good.1 h.class a.class m.class_made q'.class_made (substituted q'.values a.right) q'.left m.right q'.left_class (symmetric q'.equal) new h.joined.merged,
         merge_inhabited h.middle h.class a.class new h.joined.merged m.good.1,
       )
 
@@ -172,7 +172,7 @@ module _ (axioms : List Rewrite) (present : List (Tree Op)) (equal : List (Tree 
       let m = middle a g h.middle h.class h.built is good q in
       let q' = m.justified in
       let k = h.clash in
-      let eq = derives_equality axioms present equal j in
+      let eq = derives_equality added present equal j in
       let cx : IsClass h.middle [] (constant x) (cur h.middle k.first.class) = subst (IsClass h.middle [] (constant x)) (sym (row_present op_signature h.middle im k.first k.first_there)) (constant_class h.middle im k.first.class x (record { row = k.first; there = k.first_there; of_class = refl; is = k.first_is })) in
       let cy : IsClass h.middle [] (constant y) (cur h.middle k.second.class) = subst (IsClass h.middle [] (constant y)) (sym (row_present op_signature h.middle im k.second k.second_there)) (constant_class h.middle im k.second.class y (record { row = k.second; there = k.second_there; of_class = refl; is = k.second_is })) in (
         joined_sound D eq op_signature h.middle im m.good.0 m.good.1 h.class a.class m.class_made q'.class_made (substituted q'.values a.right) q'.left m.right q'.left_class (symmetric q'.equal)

@@ -7,8 +7,7 @@ use Rattle.word_ops.specs.declared.sorts.Op.{Op}
 use Rattle.word_ops.specs.Operators.{operators}
 use Rattle.word_terms.specs.Tree.{Tree}
 use Rattle.axiom_base.specs.Equations as rows
-use Rattle.axiom_base.specs.Rewrites.{Rewrite}
-use Rattle.axiom_base.specs.Schemes.{Scheme, plain, computed, folding, calc_kinds}
+use Rattle.axiom_base.specs.Schemes.{AddedRules, Scheme, plain, computed, folding, calc_kinds}
 use Rattle.egraph.specs.Graph.{Graph}
 use Rattle.pattern_match.specs.Matches.{IsUnmetOf}
 use Rattle.saturation.specs.Asking.{AreAsked}
@@ -63,19 +62,19 @@ module _ (g : Graph Op) where
   met_both : (ss ts : List Scheme) → AreMet g ss → AreMet g ts → AreMet g (ss ++ ts)
   met_both ss ts h k s there = elim (Contains-append_cases ss ts s there) [ inl i ↦ h s i | inr i ↦ k s i ]
 
-  pub parts_of : (axioms : List Rewrite) → IsQuiet axioms g → AreMet g (map plain rows.equations) × AreMet g (map plain axioms) × AreMet g (map computed calc_kinds) × AreMet g (map folding operators)
-  parts_of axioms h =
+  pub parts_of : (added : AddedRules) → IsQuiet added g → AreMet g (map plain rows.equations) × AreMet g (map plain added.axioms) × AreMet g (map computed (calc_kinds ++ added.kinds)) × AreMet g (map folding operators)
+  parts_of added h =
       let E = map plain rows.equations in
-      let P = map plain axioms in
-      let K = map computed calc_kinds in
+      let P = map plain added.axioms in
+      let K = map computed (calc_kinds ++ added.kinds) in
       let F = map folding operators in
       let epk = met_left (E ++ P ++ K) F h in
       let ep = met_left (E ++ P) K epk in
       (met_left E P ep, met_right E P ep, met_right (E ++ P) K epk, met_right (E ++ P ++ K) F h)
 
-  pub quiet_of : (axioms : List Rewrite) → AreMet g (map plain rows.equations) → AreMet g (map plain axioms) → AreMet g (map computed calc_kinds) → AreMet g (map folding operators) → IsQuiet axioms g
-  quiet_of axioms a b c d =
+  pub quiet_of : (added : AddedRules) → AreMet g (map plain rows.equations) → AreMet g (map plain added.axioms) → AreMet g (map computed (calc_kinds ++ added.kinds)) → AreMet g (map folding operators) → IsQuiet added g
+  quiet_of added a b c d =
       let E = map plain rows.equations in
-      let P = map plain axioms in
-      let K = map computed calc_kinds in
+      let P = map plain added.axioms in
+      let K = map computed (calc_kinds ++ added.kinds) in
       met_both (E ++ P ++ K) (map folding operators) (met_both (E ++ P) K (met_both E P a b) c) d

@@ -5,7 +5,7 @@ use Rattle.word_ops.specs.Worlds.{word}
 use Rattle.word_ops.specs.declared.sorts.Op.{Op}
 use Rattle.word_terms.specs.Keys.{op_signature}
 use Rattle.word_terms.specs.Tree.{Tree, Trees, application}
-use Rattle.axiom_base.specs.Rewrites.{Rewrite}
+use Rattle.axiom_base.specs.Schemes.{AddedRules}
 use Rattle.egraph.specs.Graph.{Graph, IsGraph, read_through, HasRow}
 use Rattle.pattern_match.specs.Classes.{IsClass, AreClasses, at_variable, at_row, no_classes, classes}
 use Rattle.saturation.specs.AtStart.{IsSorted}
@@ -26,9 +26,9 @@ use Rattle.saturation.proofs.StartStands.{inserted_stands}
 
 -- ---- with more terms present no equality is lost
 
-module _ (axioms : List Rewrite) (present more : List (Tree Op)) (equal : List Pair) where
+module _ (added : AddedRules) (present more : List (Tree Op)) (equal : List Pair) where
   mutual
-    pub with_more : {j : ℕ} {t u : Tree Op} → Derives axioms present equal j t u → Derives axioms (present ++ more) equal j t u
+    pub with_more : {j : ℕ} {t u : Tree Op} → Derives added present equal j t u → Derives added (present ++ more) equal j t u
     with_more (given t h) = given t (Contains-append_left present more t h)
     with_more (assumed t u h) = assumed t u h
     with_more (symmetric d) = symmetric (with_more d)
@@ -38,7 +38,7 @@ module _ (axioms : List Rewrite) (present more : List (Tree Op)) (equal : List P
     with_more (congruent d e) = congruent (with_more d) (each_with_more e)
     with_more (by_rule r values is d e) = by_rule r values is (with_more d) (λ n c h. with_more (e n c h))
 
-    each_with_more : {j : ℕ} {ts us : Trees Op} → DerivesEach axioms present equal j ts us → DerivesEach axioms (present ++ more) equal j ts us
+    each_with_more : {j : ℕ} {ts us : Trees Op} → DerivesEach added present equal j ts us → DerivesEach added (present ++ more) equal j ts us
     each_with_more no_operands = no_operands
     each_with_more (operands d e) = operands (with_more d) (each_with_more e)
 
@@ -77,7 +77,7 @@ class_beside {old} {new} b h = class_kept old new (built_extends [] b) [] h
 
 -- ---- the graph
 
-module _ (axioms : List Rewrite) (present more : List (Tree Op)) (equal : List Pair) (g new : Graph Op)
+module _ (added : AddedRules) (present more : List (Tree Op)) (equal : List Pair) (g new : Graph Op)
     (is : IsGraph op_signature g) (inserted : AreInserted more g new) where
   placed_at : (t : Tree Op) (c : ℕ) → IsClass g [] t c → Placed g t
   placed_at t c h =
@@ -90,10 +90,10 @@ module _ (axioms : List Rewrite) (present more : List (Tree Op)) (equal : List P
   there_now : (t : Tree Op) → Contains more t → (d : ℕ) × IsClass new [] t d
   there_now t h = let p = All-contains (Placed new) more t (all_placed inserted is) h in (cur new p.class, p.is)
 
-  pub still_grown : IsGrown axioms present equal g 0 → IsGrown axioms (present ++ more) equal new 0
+  pub still_grown : IsGrown added present equal g 0 → IsGrown added (present ++ more) equal new 0
   still_grown grown =
-      let good = inserted_good axioms (present ++ more) equal inserted is
-      ((λ t u c h k. with_more axioms present more equal ((grown.exact t u).0 (record { class = c; first = h; second = k }))), grown.inhabited)
+      let good = inserted_good added (present ++ more) equal inserted is
+      ((λ t u c h k. with_more added present more equal ((grown.exact t u).0 (record { class = c; first = h; second = k }))), grown.inhabited)
       (λ k d l. given (get_or more k d) (Contains-append_right present more (get_or more k d) (All-contains_itself more k d l))) in
       let inew = inserted_graph inserted is in
       record {
@@ -102,7 +102,7 @@ module _ (axioms : List Rewrite) (present more : List (Tree Op)) (equal : List P
         inhabited = good.1;
         exact = λ t u. (
           λ h. good.0 t u h.class h.first h.second,
-          λ d. complete_at_start axioms (present ++ more) equal new inew.distinct
+          λ d. complete_at_start added (present ++ more) equal new inew.distinct
               (λ v h. elim (Contains-append_cases present more v h) [
                 | inl old ↦ (let o = (grown.exact v v).1 (given v old) in let k = there_still v o.class o.first in record { class = k.0; first = k.1; second = k.1 })
                 | inr late ↦ (let k = there_now v late in record { class = k.0; first = k.1; second = k.1 })
@@ -117,7 +117,7 @@ module _ (axioms : List Rewrite) (present more : List (Tree Op)) (equal : List P
         );
       }
 
-  pub still_stands : Law → (names : ℕ → List ℕ) (kept : List (Tree Op)) → All IsSorted more → GraphStands names axioms equal kept g → GraphStands names axioms equal (kept ++ more) new
+  pub still_stands : Law → (names : ℕ → List ℕ) (kept : List (Tree Op)) → All IsSorted more → GraphStands names added equal kept g → GraphStands names added equal (kept ++ more) new
   still_stands law names kept sorted stands = record {
     classes = λ t h. elim (Contains-append_cases kept more t h) [
       | inl old ↦ (let k = stands.classes t old in there_still t k.0 k.1)

@@ -2,9 +2,10 @@
 use Rattle.std.proofs.Common.{◌≡◌, ℕ, zero, suc, ◌+◌, ◌-◌, ◌*◌, ◌^◌, ◌<◌, ◌≤◌, min, List, [], ◌∷◌, ◌++◌, map, length, take, get_or, refl, sym, ap, ◌∙◌, arith, ⊎_elim}
 use Rattle.std.proofs.lemmas.Bool.{cases_lt}
 use Rattle.word_terms.specs.OperatorsIn.{operators_in}
-use Rattle.axiom_base.specs.Computed.{calc_right}
+use Rattle.axiom_base.specs.Computed.{calc_right, no_constants}
 use Rattle.axiom_base.specs.declared.kinds.Calc.{Calc}
-use Rattle.axiom_base.specs.declared.kinds.Calc.TheVariants.{C1, C2, C3, C4, C5, C6, C7, C8, C9, C10, C11, C12}
+use Rattle.axiom_base.specs.declared.kinds.Calc.TheVariants.{C1}
+use Rattle.axiom_base.specs.declared.kinds.Given.{Given}
 use Rattle.pattern_match.specs.declared.found.Match.{Match}
 use Rattle.pattern_match.specs.declared.found.Fold.{Fold}
 use Rattle.saturation.specs.Trace.{Asked, operators_asked}
@@ -61,19 +62,9 @@ need_more f xs found k x ms w before need count weight after each len l is there
     omega (arith, a2, h, sum, p)
 
 -- each right side of a kind has as many operators
-pub kind_operators : (kind : Calc) (e : ℕ) → operators_in (calc_right kind e) ≡ operators_in (calc_right kind 0)
-kind_operators C1 e = refl
-kind_operators C2 e = refl
-kind_operators C3 e = refl
-kind_operators C4 e = refl
-kind_operators C5 e = refl
-kind_operators C6 e = refl
-kind_operators C7 e = refl
-kind_operators C8 e = refl
-kind_operators C9 e = refl
-kind_operators C10 e = refl
-kind_operators C11 e = refl
-kind_operators C12 e = refl
+pub kind_operators : (kind : Calc) (given : Given) → operators_in (calc_right kind given) ≡ operators_in (calc_right kind no_constants)
+kind_operators C1 given = refl
+kind_operators _ given = refl
 
 pub folds_operators : (found : List Fold) → operators_asked (map fold_asked found) ≡ length found
 folds_operators [] = refl

@@ -10,7 +10,7 @@ use Rattle.word_terms.specs.Keys.{op_signature}
 use Rattle.axiom_base.specs.Equations as rows
 use Rattle.word_terms.specs.Building.{constant}
 use Rattle.axiom_base.specs.Rewrites.{Rewrite}
-use Rattle.axiom_base.specs.Schemes.{Scheme, plain, computed, folding, calc_kinds, schemes, weight, itself}
+use Rattle.axiom_base.specs.Schemes.{AddedRules, Scheme, plain, computed, folding, calc_kinds, schemes, weight, itself}
 use Rattle.egraph.specs.Graph.{Graph, IsGraph, HasClass, HasConstant}
 use Rattle.egraph.specs.declared.rows.Row.{Row}
 use Rattle.pattern_match.specs.Classes.{IsClass}
@@ -230,35 +230,35 @@ module _ (g : Graph Op) (is : IsGraph op_signature g) where
 
   -- what all schemes need, by their parts
   pub over :
-      (axioms : List Rewrite) (e p k f nodes : ℕ) →
+      (added : AddedRules) (e p k f nodes : ℕ) →
       AreNeeds g (map plain rows.equations) e →
-      AreNeeds g (map plain axioms) p →
-      AreNeeds g (map computed calc_kinds) k →
+      AreNeeds g (map plain added.axioms) p →
+      AreNeeds g (map computed (calc_kinds ++ added.kinds)) k →
       AreNeeds g (map folding operators) f →
       0 < e + p + k + f →
       nodes < length g.rows + (e + p + k + f) →
-      IsOver axioms g nodes
-  over axioms e p k f nodes a b c d some passed =
+      IsOver added g nodes
+  over added e p k f nodes a b c d some passed =
       let all = needs_append (needs_append (needs_append a b) c) d in (
-        unmet_needed g (schemes axioms) 0 (record { need = e + p + k + f; are = all; more = some }),
+        unmet_needed g (schemes added) 0 (record { need = e + p + k + f; are = all; more = some }),
         record { need = e + p + k + f; is = all; passed = passed },
       )
 
   -- the search ends where more is needed than there is room for
-  module _ (axioms : List Rewrite) (k f nodes room before : ℕ) (kinds : AreNeeds g (map computed calc_kinds) k) (folds : AreNeeds g (map folding operators) f) (few : before ≤ f + k) (room_is : room ≡ nodes - length g.rows) where
-    pub over_by_kinds : room < before → IsOver axioms g nodes
+  module _ (added : AddedRules) (k f nodes room before : ℕ) (kinds : AreNeeds g (map computed (calc_kinds ++ added.kinds)) k) (folds : AreNeeds g (map folding operators) f) (few : before ≤ f + k) (room_is : room ≡ nodes - length g.rows) where
+    pub over_by_kinds : room < before → IsOver added g nodes
     over_by_kinds more =
         let e = rules_need g is rows.equations in
-        let p = rules_need g is axioms in
-        over axioms e.0 p.0 k f nodes e.1 p.1 kinds folds (omega (arith, more, few)) (omega (arith, more, few, room_is))
+        let p = rules_need g is added.axioms in
+        over added e.0 p.0 k f nodes e.1 p.1 kinds folds (omega (arith, more, few)) (omega (arith, more, few, room_is))
 
-    pub over_by_equations : NeedMoreThan g (map plain rows.equations) (room - before) → IsOver axioms g nodes
+    pub over_by_equations : NeedMoreThan g (map plain rows.equations) (room - before) → IsOver added g nodes
     over_by_equations h =
-        let p = rules_need g is axioms in
+        let p = rules_need g is added.axioms in
         let more = h.more in
-        over axioms h.need p.0 k f nodes h.are p.1 kinds folds (omega (arith, more)) (omega (arith, more, few, room_is))
+        over added h.need p.0 k f nodes h.are p.1 kinds folds (omega (arith, more)) (omega (arith, more, few, room_is))
 
-    pub over_by_program : (e so_far : ℕ) → AreNeeds g (map plain rows.equations) e → so_far ≤ before + e → NeedMoreThan g (map plain axioms) (room - so_far) → IsOver axioms g nodes
-    over_by_program e so_far equations most h =
+    pub over_by_axioms : (e so_far : ℕ) → AreNeeds g (map plain rows.equations) e → so_far ≤ before + e → NeedMoreThan g (map plain added.axioms) (room - so_far) → IsOver added g nodes
+    over_by_axioms e so_far equations most h =
         let more = h.more in
-        over axioms e h.need k f nodes equations h.are kinds folds (omega (arith, more)) (omega (arith, more, few, room_is, most))
+        over added e h.need k f nodes equations h.are kinds folds (omega (arith, more)) (omega (arith, more, few, room_is, most))

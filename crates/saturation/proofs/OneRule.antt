@@ -9,6 +9,7 @@ use Rattle.axiom_base.specs.Conditions.{IsCalc}
 use Rattle.axiom_base.specs.Computed.{calc_rewrite, fold_rewrite, first_constant, constants_from}
 use Rattle.axiom_base.specs.Schemes.{Scheme, plain, computed, folding, IsOf, itself, calculated, folded}
 use Rattle.axiom_base.specs.declared.kinds.Calc.{Calc}
+use Rattle.axiom_base.specs.declared.kinds.Given.{Given}
 use Rattle.egraph.specs.Graph.{Graph, IsGraph, HasConstant}
 use Rattle.pattern_match.specs.Matches.{IsMatch}
 use Rattle.saturation.proofs.Classes.{one_class}
@@ -16,12 +17,12 @@ use Rattle.saturation.proofs.Classes.{one_class}
 -- which rules are the scheme's
 abbrev RuleOf : Scheme → Rewrite → Type 0
 RuleOf (plain r) q = q ≡ r
-RuleOf (computed kind) q = (cs : List ℕ) × (e : ℕ) × IsCalc kind cs e × (q ≡ calc_rewrite kind cs e)
+RuleOf (computed kind) q = (cs : List ℕ) × (given : Given) × IsCalc kind cs given × (q ≡ calc_rewrite kind cs given)
 RuleOf (folding op) q = (cs : List ℕ) × (length cs ≡ arity_of op) × (q ≡ fold_rewrite op cs)
 
 rule_of : {s : Scheme} {q : Rewrite} → IsOf s q → RuleOf s q
 rule_of (itself r) = refl
-rule_of (calculated kind cs e is) = (cs, e, is, refl)
+rule_of (calculated kind cs given is) = (cs, given, is, refl)
 rule_of (folded op cs words count) = (cs, count, refl)
 
 pub of_plain : {r q : Rewrite} → IsOf (plain r) q → q ≡ r
@@ -31,7 +32,7 @@ abbrev pub AreNumbered : Type 0
 AreNumbered = (k : ℕ) (cs : List ℕ) (n c : ℕ) → Contains {X = ℕ × ℕ} (constants_from k cs) (n, c) ↔ ((i : ℕ) × (i < length cs) × (n ≡ k + i) × (c ≡ get_or cs i 0))
 
 abbrev pub GiveOne : Type 0
-GiveOne = (kind : Calc) (cs : List ℕ) (e other : ℕ) → IsCalc kind cs e → IsCalc kind cs other → e ≡ other
+GiveOne = (kind : Calc) (cs : List ℕ) (given other : Given) → IsCalc kind cs given → IsCalc kind cs other → given ≡ other
 
 same_lists : (cs ds : List ℕ) → length cs ≡ length ds → ((i : ℕ) → i < length cs → get_or cs i 0 ≡ get_or ds i 0) → cs ≡ ds
 same_lists [] [] l h = refl

@@ -6,7 +6,7 @@ use Rattle.word_ops.specs.declared.sorts.Op.{Op}
 use Rattle.word_terms.specs.Keys.{op_signature}
 use Rattle.word_terms.specs.Tree.{Tree, Trees, variable}
 use Rattle.axiom_base.specs.Rewrites.{Rewrite, IsUsable}
-use Rattle.axiom_base.specs.Schemes.{Scheme, IsOf, IsRuleOf, schemes}
+use Rattle.axiom_base.specs.Schemes.{AddedRules, Scheme, IsOf, IsRuleOf, schemes}
 use Rattle.egraph.specs.Graph.{Graph, Agree, HasClass, HasConstant}
 use Rattle.egraph.specs.Joined.{relabel}
 use Rattle.egraph.specs.declared.rows.Row.{Row}
@@ -147,8 +147,8 @@ module _ (f : ℕ → ℕ) (old new : Graph Op) (re : IsRenamed f old new) where
       let same : map f (get_or old.rows i q).operands ≡ map f (get_or old.rows j q).operands = sym (ap (λ (r : Row Op). r.operands) first) ∙ agree.operands ∙ ap (λ (r : Row Op). r.operands) second in
       h i j q lt m (record { op = same_op; operands = same_from_map _ _ (operands_have (get_or old.rows i q) (Contains-get_or old.rows i q (omega arith))) (operands_have (get_or old.rows j q) (Contains-get_or old.rows j q m)) same })
 
-  pub grown_to : (axioms : List Rewrite) (present : List (Tree Op)) (equal : List Pair) (j : ℕ) → IsGrown axioms present equal old j → IsGrown axioms present equal new j
-  grown_to axioms present equal j grown = record {
+  pub grown_to : (added : AddedRules) (present : List (Tree Op)) (equal : List Pair) (j : ℕ) → IsGrown added present equal old j → IsGrown added present equal new j
+  grown_to added present equal j grown = record {
     distinct = distinct grown.distinct;
     operands =
         subst (All (λ (r : Row Op). All (HasClass new) r.operands)) (sym re.rows)
@@ -229,11 +229,11 @@ module _ (f : ℕ → ℕ) (old new : Graph Op) (re : IsRenamed f old new) where
       let c = class_from p.0 p.1 u.rule.left u.class unmet.match.left in
       (p.0, record { rule = u.rule; of = u.of; class = c.0; unmet = unmet_from u.rule rule_usable p.0 c.0 p.1 c.3 (subst (IsUnmet new u.rule (map f p.0)) (sym c.2) unmet) }, p.2)
 
-  quiet_to : (axioms : List Rewrite) → ((s : Scheme) → Contains (schemes axioms) s → AreUsable s) → IsQuiet axioms old → IsQuiet axioms new
-  quiet_to axioms usable quiet s h ds u = let p = unmet_of_from s ds (usable s h) u in quiet s h p.0 p.1
+  quiet_to : (added : AddedRules) → ((s : Scheme) → Contains (schemes added) s → AreUsable s) → IsQuiet added old → IsQuiet added new
+  quiet_to added usable quiet s h ds u = let p = unmet_of_from s ds (usable s h) u in quiet s h p.0 p.1
 
-  quiet_from : (axioms : List Rewrite) → ((s : Scheme) → Contains (schemes axioms) s → AreUsable s) → IsQuiet axioms new → IsQuiet axioms old
-  quiet_from axioms usable quiet s h places u = quiet s h (map f places) (unmet_of_to s places (usable s h) u)
+  quiet_from : (added : AddedRules) → ((s : Scheme) → Contains (schemes added) s → AreUsable s) → IsQuiet added new → IsQuiet added old
+  quiet_from added usable quiet s h places u = quiet s h (map f places) (unmet_of_to s places (usable s h) u)
 
   lists_to : (s : Scheme) (xs : List (List ℕ)) → AreUsable s → Lists (IsUnmetOf old s) xs → Lists (IsUnmetOf new s) (map (map f) xs)
   lists_to s xs usable lists = record {
@@ -261,17 +261,17 @@ module _ (f : ℕ → ℕ) (old new : Graph Op) (re : IsRenamed f old new) where
       one_need (need_to s m (usable s (0, omega arith, refl)) need)
       (needs_to ss n (λ t h. usable t (suc h.0, (let l = h.1 in omega arith), h.2)) needs)
 
-  pub stops_to : (axioms : List Rewrite) → ((r : Rewrite) → IsRuleOf axioms r → IsUsable r) → (rounds nodes j : ℕ) (stop : Stop) → StopIs axioms old rounds nodes j stop → StopIs axioms new rounds nodes j stop
-  stops_to axioms usable rounds nodes j Quiet h = quiet_to axioms (λ s there r of. usable r (record { scheme = s; there = there; of = of })) h
-  stops_to axioms usable rounds nodes j Rounds h = (λ q. h.0 (quiet_from axioms (λ s there r of. usable r (record { scheme = s; there = there; of = of })) q), h.1)
-  stops_to axioms usable rounds nodes j Full h =
-      let each = λ (s : Scheme) (there : Contains (schemes axioms) s) (r : Rewrite) (of : IsOf s r). usable r (record { scheme = s; there = there; of = of }) in
+  pub stops_to : (added : AddedRules) → ((r : Rewrite) → IsRuleOf added r → IsUsable r) → (rounds nodes j : ℕ) (stop : Stop) → StopIs added old rounds nodes j stop → StopIs added new rounds nodes j stop
+  stops_to added usable rounds nodes j Quiet h = quiet_to added (λ s there r of. usable r (record { scheme = s; there = there; of = of })) h
+  stops_to added usable rounds nodes j Rounds h = (λ q. h.0 (quiet_from added (λ s there r of. usable r (record { scheme = s; there = there; of = of })) q), h.1)
+  stops_to added usable rounds nodes j Full h =
+      let each = λ (s : Scheme) (there : Contains (schemes added) s) (r : Rewrite) (of : IsOf s r). usable r (record { scheme = s; there = there; of = of }) in
       let full = h.2 in (
-        λ q. h.0 (quiet_from axioms each q),
+        λ q. h.0 (quiet_from added each q),
         h.1,
         record {
           need = full.need;
-          is = needs_to (schemes axioms) full.need each full.is;
+          is = needs_to (schemes added) full.need each full.is;
           passed = omega (arith, full.passed, ap length re.rows, length-map old.rows (relabel f));
         },
       )

@@ -236,8 +236,8 @@ module _ (a : AxiomTree) where
       zero_is : IsValue sorts.Word (word 0)
       zero_is = omega arith
 
-  pub axiom_is_true : (declared : List DeclaredOp) (world : World) → IsAxiom declared a → HoldsOfAll declared world a → IsTrueIn world (declared_name declared) (rule_of a)
-  axiom_is_true declared world is holds values fit =
+  pub axiom_is_true : (others declared : List DeclaredOp) (world : World) → IsAxiom others a → HoldsOfAll declared world a → IsTrueIn world (declared_name declared) (rule_of a)
+  axiom_is_true others declared world is holds values fit =
       let each = each_word values fit in
       new_value declared world values each a.left (below a.left sorts.Word is.left)
       ∙ holds (words declared world values) (are_words declared world values each) (length-map-range_with_len (λ n. as_word (get_or values (count n) (word 0))) 0 N)

@@ -11,7 +11,7 @@ use Rattle.word_terms.specs.Building.{constant}
 use Rattle.word_terms.specs.Sorting.{Occurs, OccursInOne}
 use Rattle.egraph.specs.Graph.{Graph, Agree, HasClass, HasConstant, IsGraph}
 use Rattle.pattern_match.specs.Classes.{IsClass, AreClasses, at_row, no_classes, classes, HaveOneClass}
-use Rattle.axiom_base.specs.Schemes.{IsRuleOf}
+use Rattle.axiom_base.specs.Schemes.{AddedRules, IsRuleOf}
 use Rattle.pattern_match.specs.Matches.{IsMatch}
 use Rattle.saturation.specs.Trace.{Asked, AreAllApplied, IsRefused}
 use Rattle.saturation.specs.Derives.{Derives, DerivesEach, given, assumed, symmetric, transitive, later, operand, congruent, by_rule, no_operands, operands}
@@ -53,18 +53,18 @@ collect (suc n) P f =
 pub class_constant : (g : Graph Op) (c x : ℕ) → IsClass g [] (constant x) c → HasConstant op_signature g.rows c x
 class_constant g c x (at_row {cs} {c = d} no_classes k) = record { row = record { op = Constant x; operands = []; class = d }; there = k; of_class = refl; is = refl }
 
-module _ (axioms : List Rewrite) (present : List (Tree Op)) (equal : List (Tree Op × Tree Op)) (j : ℕ)
-    (usable : (r : Rewrite) → IsRuleOf axioms r → IsUsable r)
+module _ (added : AddedRules) (present : List (Tree Op)) (equal : List (Tree Op × Tree Op)) (j : ℕ)
+    (usable : (r : Rewrite) → IsRuleOf added r → IsUsable r)
     (g : Graph Op) (apart : AllPairs (λ r t. ¬ Agree r t) g.rows)
-    (before : (t u : Tree Op) → Derives axioms present equal j t u → HaveOneClass g [] t u)
+    (before : (t u : Tree Op) → Derives added present equal j t u → HaveOneClass g [] t u)
     (new : Graph Op) (apart' : AllPairs (λ r t. ¬ Agree r t) new.rows) (follows : Follows g new)
     (now : (t : Tree Op) (c : ℕ) → IsClass g [] t c → IsClass new [] t (cur new c))
-    (answered : (r : Rewrite) (places : List ℕ) (c : ℕ) → IsRuleOf axioms r → IsMatch g r places c → IsClass new (map (cur new) places) r.right (cur new c)) where
+    (answered : (r : Rewrite) (places : List ℕ) (c : ℕ) → IsRuleOf added r → IsMatch g r places c → IsClass new (map (cur new) places) r.right (cur new c)) where
   kept_one : {t u : Tree Op} → HaveOneClass g [] t u → HaveOneClass new [] t u
   kept_one {t} {u} h = record { class = cur new h.class; first = now t h.class h.first; second = now u h.class h.second }
 
   -- both instances of a rule have one class after the round
-  rule_done : (r : Rewrite) (values : List (Tree Op)) → IsRuleOf axioms r → HaveOneClass g [] (substituted values r.left) (substituted values r.left) →
+  rule_done : (r : Rewrite) (values : List (Tree Op)) → IsRuleOf added r → HaveOneClass g [] (substituted values r.left) (substituted values r.left) →
       ((n c : ℕ) → Contains r.constants (n, c) → HaveOneClass g [] (put_in values n) (constant c)) →
       HaveOneClass new [] (substituted values r.left) (substituted values r.right)
   rule_done r values is left constants =
@@ -93,21 +93,21 @@ module _ (axioms : List Rewrite) (present : List (Tree Op)) (equal : List (Tree 
       }
 
   mutual
-    complete_after : {k : ℕ} {t u : Tree Op} → Derives axioms present equal k t u → k ≡ j + 1 → HaveOneClass new [] t u
+    complete_after : {k : ℕ} {t u : Tree Op} → Derives added present equal k t u → k ≡ j + 1 → HaveOneClass new [] t u
     complete_after (given t h) e = absurd (omega arith)
     complete_after (assumed t u h) e = absurd (omega arith)
     complete_after (symmetric d) e = one_back new apart' (complete_after d e)
     complete_after (transitive d f) e = one_through new apart' (complete_after d e) (complete_after f e)
-    complete_after (later {j = i} {t} {u} d) e = let f : i ≡ j = omega arith in kept_one (before t u (subst (λ n. Derives axioms present equal n t u) f d))
+    complete_after (later {j = i} {t} {u} d) e = let f : i ≡ j = omega arith in kept_one (before t u (subst (λ n. Derives added present equal n t u) f d))
     complete_after (operand t h d) e = operand_class new apart' t h (complete_after d e)
     complete_after (congruent d f) e = congruent_class new apart' (complete_after d e) (complete_each_after f e)
     complete_after (by_rule {j = i} r values is d f) e =
         let n : i ≡ j = omega arith in
         rule_done r values is
-        (before (substituted values r.left) (substituted values r.left) (subst (λ k. Derives axioms present equal k (substituted values r.left) (substituted values r.left)) n d))
-        (λ v c h. before (put_in values v) (constant c) (subst (λ k. Derives axioms present equal k (put_in values v) (constant c)) n (f v c h)))
+        (before (substituted values r.left) (substituted values r.left) (subst (λ k. Derives added present equal k (substituted values r.left) (substituted values r.left)) n d))
+        (λ v c h. before (put_in values v) (constant c) (subst (λ k. Derives added present equal k (put_in values v) (constant c)) n (f v c h)))
 
-    complete_each_after : {k : ℕ} {ts us : Trees Op} → DerivesEach axioms present equal k ts us → k ≡ j + 1 → Pairs new apart' ts us
+    complete_each_after : {k : ℕ} {ts us : Trees Op} → DerivesEach added present equal k ts us → k ≡ j + 1 → Pairs new apart' ts us
     complete_each_after no_operands e = no_pair
     complete_each_after (operands d f) e = one_pair (complete_after d e) (complete_each_after f e)
 
@@ -127,18 +127,18 @@ terms_at g inh (c ∷ cs) h =
     let ts = terms_at g inh cs (All-tail (HasClass g) c cs h) in
     (t.0 ∷ ts.0, λ n d l. at_place g c cs t.0 ts.0 t.1 ts.1 n d l)
 
-module _ (axioms : List Rewrite) (present : List (Tree Op)) (equal : List (Tree Op × Tree Op)) (j : ℕ)
-    (usable : (r : Rewrite) → IsRuleOf axioms r → IsUsable r)
-    (g : Graph Op) (is : IsGraph op_signature g) (grown : IsGrown axioms present equal g j) (asked : List Asked) (are : Asks axioms g asked) where
-  match_justified : (r : Rewrite) → IsRuleOf axioms r → (places : List ℕ) (class : ℕ) → IsMatch g r places class → IsJustified (Derives axioms present equal (j + 1)) g (record { right = r.right; places = places; class = class })
+module _ (added : AddedRules) (present : List (Tree Op)) (equal : List (Tree Op × Tree Op)) (j : ℕ)
+    (usable : (r : Rewrite) → IsRuleOf added r → IsUsable r)
+    (g : Graph Op) (is : IsGraph op_signature g) (grown : IsGrown added present equal g j) (asked : List Asked) (are : Asks added g asked) where
+  match_justified : (r : Rewrite) → IsRuleOf added r → (places : List ℕ) (class : ℕ) → IsMatch g r places class → IsJustified (Derives added present equal (j + 1)) g (record { right = r.right; places = places; class = class })
   match_justified r rule places class m =
       let w = usable r rule in
       let ts = terms_at g grown.inhabited places m.present in
       let left_class : IsClass g [] (substituted ts.0 r.left) class = at_instance g places ts.0 (λ n l. ts.1 n (variable n) l) m.left in
-      let left : Derives axioms present equal j (substituted ts.0 r.left) (substituted ts.0 r.left) =
+      let left : Derives added present equal j (substituted ts.0 r.left) (substituted ts.0 r.left) =
       (grown.exact (substituted ts.0 r.left) (substituted ts.0 r.left)).0 (record { class = class; first = left_class; second = left_class }) in
       let stays : (t : Tree Op) (c : ℕ) → IsClass g [] t c → IsClass g [] t (cur g c) = λ t c k. subst (IsClass g [] t) (sym (has_present op_signature g is c (class_has g k))) k in
-      let consts : (n c : ℕ) → Contains r.constants (n, c) → Derives axioms present equal j (put_in ts.0 n) (constant c) =
+      let consts : (n c : ℕ) → Contains r.constants (n, c) → Derives added present equal j (put_in ts.0 n) (constant c) =
       λ n c k.
       let b : n < length places = omega (arith, m.count, w.constants n c k) in
       (grown.exact (put_in ts.0 n) (constant c)).0 (record { class = get_or places n 0; first = ts.1 n (variable n) b; second = constant_class g is (get_or places n 0) c (m.constants n c k) }) in
@@ -154,26 +154,26 @@ module _ (axioms : List Rewrite) (present : List (Tree Op)) (equal : List (Tree 
         equal = by_rule r ts.0 rule left consts;
       }
 
-  justified : (a : Asked) → (r : Rewrite) × IsRuleOf axioms r × ((places : List ℕ) × IsMatch g r places a.class × AsksFor r places a) → IsJustified (Derives axioms present equal (j + 1)) g a
-  justified a h = asked_justified (Derives axioms present equal (j + 1)) g h.0 h.2.0 a h.2.2 (match_justified h.0 h.1 h.2.0 a.class h.2.1)
+  justified : (a : Asked) → (r : Rewrite) × IsRuleOf added r × ((places : List ℕ) × IsMatch g r places a.class × AsksFor r places a) → IsJustified (Derives added present equal (j + 1)) g a
+  justified a h = asked_justified (Derives added present equal (j + 1)) g h.0 h.2.0 a h.2.2 (match_justified h.0 h.1 h.2.0 a.class h.2.1)
 
-  all_justified : All (IsJustified (Derives axioms present equal (j + 1)) g) asked
+  all_justified : All (IsJustified (Derives added present equal (j + 1)) g) asked
   all_justified = λ n d l. justified (get_or asked n d) (are.each n d l)
 
   abouts : All (IsAbout g) asked
   abouts = λ n d l. let q = all_justified n d l in record { places = q.stand.made; class = q.class_made }
 
-  sound_before : (t u : Tree Op) (c : ℕ) → IsClass g [] t c → IsClass g [] u c → Derives axioms present equal (j + 1) t u
+  sound_before : (t u : Tree Op) (c : ℕ) → IsClass g [] t c → IsClass g [] u c → Derives added present equal (j + 1) t u
   sound_before t u c h k = later ((grown.exact t u).0 (record { class = c; first = h; second = k }))
 
-  pub round_is_grown : (new : Graph Op) → AreAllApplied asked g new → IsGrown axioms present equal new (j + 1)
+  pub round_is_grown : (new : Graph Op) → AreAllApplied asked g new → IsGrown added present equal new (j + 1)
   round_is_grown new made =
-      let good = all_made_good axioms present equal (j + 1) made is (sound_before, grown.inhabited) all_justified in
+      let good = all_made_good added present equal (j + 1) made is (sound_before, grown.inhabited) all_justified in
       let follows = all_made_follow made is in
       let new_is = all_made_graph made is in
       let there = all_there made is abouts in
       let now : (t : Tree Op) (c : ℕ) → IsClass g [] t c → IsClass new [] t (cur new c) = λ t c h. class_moved g new (cur new) follows.rows [] h in
-      let answered : (r : Rewrite) (places : List ℕ) (c : ℕ) → IsRuleOf axioms r → IsMatch g r places c → IsClass new (map (cur new) places) r.right (cur new c) =
+      let answered : (r : Rewrite) (places : List ℕ) (c : ℕ) → IsRuleOf added r → IsMatch g r places c → IsClass new (map (cur new) places) r.right (cur new c) =
       λ r places c of m. elim (are.all r of places c m) [
         | inl met ↦ class_moved g new (cur new) follows.rows places met
         | inr h ↦
@@ -186,17 +186,17 @@ module _ (axioms : List Rewrite) (present : List (Tree Op)) (equal : List (Tree 
         inhabited = good.1;
         exact = λ t u. (
           λ h. good.0 t u h.class h.first h.second,
-          λ d. complete_after axioms present equal j usable g is.distinct (λ x y e. (grown.exact x y).1 e) new new_is.distinct follows now answered d refl,
+          λ d. complete_after added present equal j usable g is.distinct (λ x y e. (grown.exact x y).1 e) new new_is.distinct follows now answered d refl,
         );
       }
 
   -- a refused round shows a clash
-  pub round_clashes : (x y : ℕ) → IsRefused asked g x y → Derives axioms present equal (j + 1) (constant x) (constant y) × (x ≢ y)
-  round_clashes x y refused = refused_is_clash axioms present equal (j + 1) refused is (sound_before, grown.inhabited) all_justified
+  pub round_clashes : (x y : ℕ) → IsRefused asked g x y → Derives added present equal (j + 1) (constant x) (constant y) × (x ≢ y)
+  round_clashes x y refused = refused_is_clash added present equal (j + 1) refused is (sound_before, grown.inhabited) all_justified
 
 -- a graph of the program shows that there is none
-pub grown_has_no_clash : (axioms : List Rewrite) (present : List (Tree Op)) (equal : List (Tree Op × Tree Op)) (j : ℕ) (g : Graph Op) → IsGraph op_signature g → IsGrown axioms present equal g j →
-    (x y : ℕ) → Derives axioms present equal j (constant x) (constant y) → x ≡ y
-grown_has_no_clash axioms present equal j g is grown x y d =
+pub grown_has_no_clash : (added : AddedRules) (present : List (Tree Op)) (equal : List (Tree Op × Tree Op)) (j : ℕ) (g : Graph Op) → IsGraph op_signature g → IsGrown added present equal g j →
+    (x y : ℕ) → Derives added present equal j (constant x) (constant y) → x ≡ y
+grown_has_no_clash added present equal j g is grown x y d =
     let h = (grown.exact (constant x) (constant y)).1 d in
     is.constants h.class x y (class_constant g h.class x h.first) (class_constant g h.class y h.second)

@@ -8,7 +8,7 @@ use Rattle.word_terms.specs.Tree.{Tree, Trees, none, more, value, AreBelow, Each
 use Rattle.axiom_base.specs.Rewrites.{Rewrite, IsTrueIn, IsUsable}
 use Rattle.egraph.specs.Graph.{Graph, IsGraph}
 use Rattle.pattern_match.specs.Classes.{IsClass, AreClasses, at_variable, at_row, no_classes, classes}
-use Rattle.axiom_base.specs.Schemes.{IsRuleOf}
+use Rattle.axiom_base.specs.Schemes.{AddedRules, IsRuleOf}
 use Rattle.saturation.specs.Trace.{Asked, AreAllApplied, MayJoin}
 use Rattle.saturation.specs.Asking.{AsksFor}
 use Rattle.saturation.proofs.Asks.{Asks, asked_may, as_asked, over_places}
@@ -38,7 +38,7 @@ asked_true law world is_world names V g r places a asks h =
     as_asked (TrueAsk law world is_world names V g) r places a asks h (λ v e.
     subst (λ t. value (meaning world names) (λ n. V (cur g (get_or places n 0))) t ≡ V (cur g a.class)) e h)
 
-module _ (axioms : List Rewrite) (usable : (r : Rewrite) → IsRuleOf axioms r → IsUsable r) (g : Graph Op) (is : IsGraph op_signature g) (asked : List Asked) (are : Asks axioms g asked) where
+module _ (added : AddedRules) (usable : (r : Rewrite) → IsRuleOf added r → IsUsable r) (g : Graph Op) (is : IsGraph op_signature g) (asked : List Asked) (are : Asks added g asked) where
   -- all that is asked may be made
   pub all_may : All (MayJoin g) asked
   all_may = λ n d l.
@@ -49,7 +49,7 @@ module _ (axioms : List Rewrite) (usable : (r : Rewrite) → IsRuleOf axioms r �
   -- all that is asked is true
   pub all_true :
       (law : Law) (world : World) (is_world : IsWorld world) (names : ℕ → List ℕ) →
-      ((r : Rewrite) → IsRuleOf axioms r → IsTrueIn world names r) →
+      ((r : Rewrite) → IsRuleOf added r → IsTrueIn world names r) →
       (V : ℕ → Value) →
       True law world is_world names V g →
       All (TrueAsk law world is_world names V g) asked
@@ -60,8 +60,8 @@ module _ (axioms : List Rewrite) (usable : (r : Rewrite) → IsRuleOf axioms r �
       (match_true law world is_world names g V is true h.0 (usable h.0 h.1) (rules_hold h.0 h.1) h.2.0 a.class h.2.1)
 
   module _ (law : Law) (names : ℕ → List ℕ) (equal : List (Tree Op × Tree Op)) (terms : List (Tree Op))
-      (rules_hold : (world : World) → IsWorld world → RulesHold world names axioms equal → (r : Rewrite) → IsRuleOf axioms r → IsTrueIn world names r) where
-    pub round_stands : (new : Graph Op) → AreAllApplied asked g new → GraphStands names axioms equal terms g → GraphStands names axioms equal terms new
+      (rules_hold : (world : World) → IsWorld world → RulesHold world names added equal → (r : Rewrite) → IsRuleOf added r → IsTrueIn world names r) where
+    pub round_stands : (new : Graph Op) → AreAllApplied asked g new → GraphStands names added equal terms g → GraphStands names added equal terms new
     round_stands new made stands =
         let follows = all_made_follow made is in
         record {

@@ -7,9 +7,9 @@ use Rattle.word_ops.specs.declared.sorts.Op.{Op}
 use Rattle.word_ops.specs.declared.operators.WordOp.{WordOp}
 use Rattle.word_ops.specs.Operators.{operators}
 use Rattle.axiom_base.specs.Equations as rows
-use Rattle.axiom_base.specs.Computed.{calc_right}
+use Rattle.axiom_base.specs.Computed.{calc_right, no_constants}
 use Rattle.axiom_base.specs.Rewrites.{Rewrite}
-use Rattle.axiom_base.specs.Schemes.{Scheme, plain, computed, folding, calc_kinds, schemes, itself}
+use Rattle.axiom_base.specs.Schemes.{AddedRules, Scheme, plain, computed, folding, calc_kinds, schemes, itself}
 use Rattle.axiom_base.specs.declared.kinds.Calc.{Calc}
 use Rattle.egraph.specs.Graph.{Graph}
 use Rattle.pattern_match.specs.Found.{classes_in}
@@ -38,7 +38,7 @@ module _ (weights : HaveWeights) (g : Graph Op) where
       scheme_asked weights g (computed kind) (map classes_in found) (map (kind_asked kind) found) h.exact
       (zip_matches (IsAskedOf g (computed kind)) (kind_asked kind) found (λ k d l.
       let u = h.each k d l in
-      record { rule = u.rule; of = u.of; unmet = u.unmet; asks = record { right = ap (λ o. calc_right kind (unwrap_or o 0)) u.given_is ∙ sym u.right_is; over = inl refl } }))
+      record { rule = u.rule; of = u.of; unmet = u.unmet; asks = record { right = ap (λ o. calc_right kind (unwrap_or o no_constants)) u.given_is ∙ sym u.right_is; over = inl refl } }))
 
   are_asked_of_each : {X : Type 0} (scheme : X → Scheme) (R : X → List Match → Type 0) (f : X → Match → Asked) →
       ((x : X) (found : List Match) → R x found → AreAsked g (scheme x ∷ []) (map (f x) found)) →
@@ -51,17 +51,19 @@ module _ (weights : HaveWeights) (g : Graph Op) where
   pub rules_are_asked : (rs : List Rewrite) (found : List (List Match)) → AllZip (AreUnmetOf g) rs found → AreAsked g (map plain rs) (asked_of_each rule_asked rs found)
   rules_are_asked = are_asked_of_each plain (AreUnmetOf g) rule_asked rule_are_asked
 
-  pub kinds_are_asked : (found : List (List Match)) → AllZip (AreUnmetOfKind g) calc_kinds found → AreAsked g (map computed calc_kinds) (asked_of_each kind_asked calc_kinds found)
-  kinds_are_asked = are_asked_of_each computed (AreUnmetOfKind g) kind_asked kind_are_asked calc_kinds
+  pub kinds_are_asked : (kinds : List Calc) (found : List (List Match)) → AllZip (AreUnmetOfKind g) kinds found → AreAsked g (map computed kinds) (asked_of_each kind_asked kinds found)
+  kinds_are_asked = are_asked_of_each computed (AreUnmetOfKind g) kind_asked kind_are_asked
 
-  pub all_are_asked : (listed : (op : WordOp) → Contains operators op) (rows_are : FoldsAreRows) (axioms : List Rewrite) (u : Unmet) → AreFound g axioms u → AreAsked g (schemes axioms) (asked_of_all axioms u)
-  all_are_asked listed rows_are axioms u h =
+  pub all_are_asked : (listed : (op : WordOp) → Contains operators op) (rows_are : FoldsAreRows) (added : AddedRules) (u : Unmet) → AreFound g added u → AreAsked g (schemes added) (asked_of_all added u)
+  all_are_asked listed rows_are added u h =
       let a = rules_are_asked rows.equations u.equations.items h.equations in
-      let b = rules_are_asked axioms u.program.items h.program in
-      let c = kinds_are_asked u.kinds.items h.kinds in
+      let axioms = added.axioms in
+      let kinds = calc_kinds ++ added.kinds in
+      let b = rules_are_asked axioms u.axioms.items h.axioms in
+      let c = kinds_are_asked kinds u.kinds.items h.kinds in
       let d = folds_asked listed rows_are g u.folds h.folds h.folds_need in
-      both_asked g (map plain rows.equations ++ map plain axioms ++ map computed calc_kinds) (map folding operators) _ _
-      (both_asked g (map plain rows.equations ++ map plain axioms) (map computed calc_kinds) _ _
+      both_asked g (map plain rows.equations ++ map plain axioms ++ map computed kinds) (map folding operators) _ _
+      (both_asked g (map plain rows.equations ++ map plain axioms) (map computed kinds) _ _
       (both_asked g (map plain rows.equations) (map plain axioms) _ _ a b) c) d
 
 pub zip_length : {A B : Type 0} (R : A → B → Type 0) (xs : List A) (ys : List B) → AllZip R xs ys → length ys ≡ length xs

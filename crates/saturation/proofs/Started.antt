@@ -278,14 +278,14 @@ module _ (declared : List DeclaredOp) (goal : GoalTree) (is_goal : IsGoal declar
         few_rows = let f = graph_is.few_rows in omega (arith, few_classes, f)
 
         pub grown : IsGrownAtStart goal new
-        grown axioms = start_is_grown axioms (present_terms goal) (assumed_pairs goal) middle new is inserted assumed
+        grown added = start_is_grown added (present_terms goal) (assumed_pairs goal) middle new is inserted assumed
 
       module _ (law : Law) where
         middle_stands : (world : World) (is_world : IsWorld world) (names : ℕ → List ℕ) → Stands law world is_world names middle
         middle_stands world is_world names = inserted_stands law world is_world names inserted is sorted (nothing_stands law world is_world names)
 
         pub stands : (new : Graph Op) → AreAssumedOver lets (map assumed_pair goal.assumes) middle new → StandsAtStart goal new
-        stands new over names axioms = record {
+        stands new over names added = record {
           classes = λ t h.
               let p = placed_later middle new (all_assumed_follow (assumed_closed new over) im) t (All-contains (Placed middle) (kept_terms goal) t kept_placed h) in
               (cur new p.class, p.is);
@@ -300,7 +300,7 @@ module _ (declared : List DeclaredOp) (goal : GoalTree) (is_goal : IsGoal declar
         }
 
         refused_never : (fault : StartFault) → ClosedFault (assumed_pairs goal) middle fault → IsHopelessAtStart goal fault
-        refused_never (NoWorld class x y) refused = λ names axioms world is_world holds.
+        refused_never (NoWorld class x y) refused = λ names added world is_world holds.
             all_refused law world is_world names (expanded goal).assumes refused sorted_assumes (equal_sides world names (expanded goal).assumes holds.equal_hold) im (middle_stands world is_world names)
         refused_never Memory h = tt
 
@@ -308,8 +308,8 @@ module _ (declared : List DeclaredOp) (goal : GoalTree) (is_goal : IsGoal declar
         hopeless fault h = refused_never fault (fault_closed fault h)
 
       refused_is : (fault : StartFault) → ClosedFault (assumed_pairs goal) middle fault → StartFaultIs goal fault
-      refused_is (NoWorld class x y) refused = λ axioms.
-          let k = start_clashes axioms (present_terms goal) (assumed_pairs goal) middle x y is inserted refused in
+      refused_is (NoWorld class x y) refused = λ added.
+          let k = start_clashes added (present_terms goal) (assumed_pairs goal) middle x y is inserted refused in
           record { derived = k.0; differ = k.1 }
       refused_is Memory h = tt
 

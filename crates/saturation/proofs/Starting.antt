@@ -4,7 +4,7 @@ use Rattle.std.proofs.lemmas.List.Elements.{All-head, All-tail, All-contains, Al
 use Rattle.word_ops.specs.declared.sorts.Op.{Op}
 use Rattle.word_terms.specs.Keys.{op_signature}
 use Rattle.word_terms.specs.Tree.{Tree, Trees, variable, application, none, more, substituted, each_substituted}
-use Rattle.axiom_base.specs.Rewrites.{Rewrite}
+use Rattle.axiom_base.specs.Schemes.{AddedRules}
 use Rattle.word_terms.specs.Building.{constant}
 use Rattle.egraph.specs.Graph.{Graph, IsGraph}
 use Rattle.pattern_match.specs.Classes.{IsClass, at_variable, at_row}
@@ -113,15 +113,15 @@ all_together (one_assumed {p} {ps} {g} {h} {new} a w) is (suc k) d l = all_toget
 
 -- ---- soundness
 
-module _ (axioms : List Rewrite) (present : List (Tree Op)) (equal : List (Tree Op × Tree Op)) where
+module _ (added : AddedRules) (present : List (Tree Op)) (equal : List (Tree Op × Tree Op)) where
   abbrev D : Tree Op → Tree Op → Type 0
-  D = Derives axioms present equal 0
+  D = Derives added present equal 0
 
   abbrev pub Fine : Graph Op → Type 0
-  Fine g = Good axioms present equal 0 g
+  Fine g = Good added present equal 0 g
 
   one_good : (t : Tree Op) (g new : Graph Op) (c : ℕ) → IsBuilt [] t g c new → IsGraph op_signature g → Fine g → D t t → Fine new
-  one_good t g new c b is good d = built_sound axioms present equal 0 [] [] b is good (no_stand g) (subst (λ u. D u u) (sym (same_tree t)) d)
+  one_good t g new c b is good d = built_sound added present equal 0 [] [] b is good (no_stand g) (subst (λ u. D u u) (sym (same_tree t)) d)
 
   pub inserted_good : {ts : List (Tree Op)} {g new : Graph Op} → AreInserted ts g new → IsGraph op_signature g → Fine g → All (λ t. D t t) ts → Fine new
   inserted_good none_inserted is good d = good
@@ -136,7 +136,7 @@ module _ (axioms : List Rewrite) (present : List (Tree Op)) (equal : List (Tree 
   assumed_good : (p : Tree Op × Tree Op) (g new : Graph Op) → IsAssumeMade p g new → IsGraph op_signature g → Fine g → D p.0 p.1 → Fine new
   assumed_good p g new a is good d =
       let im = built_graph [] a.built is in
-      made_good axioms present equal 0 (record { right = p.1; places = []; class = a.class }) a.middle new a.made im
+      made_good added present equal 0 (record { right = p.1; places = []; class = a.class }) a.middle new a.made im
       (one_good p.0 g a.middle a.class a.built is good (transitive d (symmetric d))) (justified p g a.middle a.class a.built is d)
 
   all_assumed_good : {ps : List (Tree Op × Tree Op)} {g new : Graph Op} → AreAssumed ps g new → IsGraph op_signature g → Fine g → All (λ (p : Tree Op × Tree Op). D p.0 p.1) ps → Fine new
@@ -148,7 +148,7 @@ module _ (axioms : List Rewrite) (present : List (Tree Op)) (equal : List (Tree 
   all_refused_clash (refused_here {p} {ps} {g} {x} {y} a) is good d =
       let im = built_graph [] a.built is in
       let h = All-head (λ (q : Tree Op × Tree Op). D q.0 q.1) p ps d in
-      refused_at axioms present equal 0 (record { right = p.1; places = []; class = a.class }) a.middle x y a.refused im
+      refused_at added present equal 0 (record { right = p.1; places = []; class = a.class }) a.middle x y a.refused im
       (one_good p.0 g a.middle a.class a.built is good (transitive h (symmetric h))) (justified p g a.middle a.class a.built is h)
   all_refused_clash (refused_after {p} {ps} {g} {h} a w) is good d =
       all_refused_clash w (assumed_graph p g h a) (assumed_good p g h a is good (All-head (λ (q : Tree Op × Tree Op). D q.0 q.1) p ps d)) (All-tail (λ (q : Tree Op × Tree Op). D q.0 q.1) p ps d)
@@ -167,7 +167,7 @@ module _ (axioms : List Rewrite) (present : List (Tree Op)) (equal : List (Tree 
       no_class t (at_row h k) = omega (arith, k.1)
 
   -- the graph that starts from nothing
-  pub start_is_grown : (middle new : Graph Op) → IsGraph op_signature (record { rows = []; current = [] }) → AreInserted present (record { rows = []; current = [] }) middle → AreAssumed equal middle new → IsGrown axioms present equal new 0
+  pub start_is_grown : (middle new : Graph Op) → IsGraph op_signature (record { rows = []; current = [] }) → AreInserted present (record { rows = []; current = [] }) middle → AreAssumed equal middle new → IsGrown added present equal new 0
   start_is_grown middle new is inserted assumes =
       let im = inserted_graph inserted is in
       let inew = all_assumed_graph assumes im in
@@ -181,12 +181,12 @@ module _ (axioms : List Rewrite) (present : List (Tree Op)) (equal : List (Tree 
         inhabited = good.1;
         exact = λ t u. (
           λ h. good.0 t u h.class h.first h.second,
-          λ d. complete_at_start axioms present equal new inew.distinct
+          λ d. complete_at_start added present equal new inew.distinct
               (λ v h. let p = placed_later middle new f v (All-contains (Placed middle) present v placed h) in record { class = cur new p.class; first = p.is; second = p.is })
               (λ v w h. let p = All-contains (PairTogether new) equal (v, w) pairs h in record { class = cur new p.class; first = p.first; second = p.second })
               d refl,
         );
       }
 
-  pub start_clashes : (middle : Graph Op) (x y : ℕ) → IsGraph op_signature (record { rows = []; current = [] }) → AreInserted present (record { rows = []; current = [] }) middle → AreRefused equal middle x y → Derives axioms present equal 0 (constant x) (constant y) × (x ≢ y)
+  pub start_clashes : (middle : Graph Op) (x y : ℕ) → IsGraph op_signature (record { rows = []; current = [] }) → AreInserted present (record { rows = []; current = [] }) middle → AreRefused equal middle x y → Derives added present equal 0 (constant x) (constant y) × (x ≢ y)
   start_clashes middle x y is inserted refused = all_refused_clash refused (inserted_graph inserted is) (inserted_good inserted is nothing_good given_all) assumed_all

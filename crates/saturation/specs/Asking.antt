@@ -6,9 +6,9 @@ use Rattle.word_ops.specs.declared.sorts.Op.{Op}
 use Rattle.axiom_base.specs.Rewrites.{Rewrite}
 use Rattle.word_terms.specs.Building.{constant}
 use Rattle.axiom_base.specs.Equations as rows
-use Rattle.axiom_base.specs.Computed.{calc_right}
+use Rattle.axiom_base.specs.Computed.{calc_right, no_constants}
 use Rattle.axiom_base.specs.declared.kinds.Calc.{Calc}
-use Rattle.axiom_base.specs.Schemes.{Scheme, plain, computed, folding, calc_kinds, IsOf}
+use Rattle.axiom_base.specs.Schemes.{AddedRules, Scheme, plain, computed, folding, calc_kinds, IsOf}
 use Rattle.egraph.specs.Graph.{Graph}
 use Rattle.pattern_match.specs.Matches.{IsUnmet, IsUnmetOf, IsUnmetCalc, IsFoldOf, IsNeed, AreNeeds}
 use Rattle.pattern_match.specs.Found.{classes_in}
@@ -68,16 +68,16 @@ pub record AreUnmetOf (g : Graph Op) (r : Rewrite) (found : List Match) : Type 0
   pub exact : Lists (IsUnmetOf g (plain r)) (map classes_in found)
   pub each : All (λ (m : Match). IsUnmet g r m.classes m.class) found
 
--- the unmet matches of the kind's rules, each with the class of its left side and its constant
+-- the unmet matches of the kind's rules, each with the class of its left side and its constants
 pub record AreUnmetOfKind (g : Graph Op) (kind : Calc) (found : List Match) : Type 0 where
   pub exact : Lists (IsUnmetOf g (computed kind)) (map classes_in found)
   pub each : All (IsUnmetCalc g kind) found
 
 -- what a search found: the unmet matches of each rule and kind in their order, and those of folding
-pub record AreFound (g : Graph Op) (axioms : List Rewrite) (u : Unmet) : Type 0 where
+pub record AreFound (g : Graph Op) (added : AddedRules) (u : Unmet) : Type 0 where
   pub equations : AllZip (AreUnmetOf g) rows.equations u.equations.items
-  pub program : AllZip (AreUnmetOf g) axioms u.program.items
-  pub kinds : AllZip (AreUnmetOfKind g) calc_kinds u.kinds.items
+  pub axioms : AllZip (AreUnmetOf g) added.axioms u.axioms.items
+  pub kinds : AllZip (AreUnmetOfKind g) (calc_kinds ++ added.kinds) u.kinds.items
   pub folds : Chosen (IsFoldOf g) g.rows u.folds
   pub folds_need : AreNeeds g (map folding operators) (length u.folds)
 
@@ -86,7 +86,11 @@ abbrev pub rule_asked : Rewrite → Match → Asked
 rule_asked r m = record { right = r.right; places = m.classes; class = m.class }
 
 abbrev pub kind_asked : Calc → Match → Asked
-kind_asked kind m = record { right = calc_right kind (unwrap_or m.given 0); places = m.classes; class = m.class }
+kind_asked kind m = record {
+  right = calc_right kind (unwrap_or m.given no_constants);
+  places = m.classes;
+  class = m.class;
+}
 
 abbrev pub fold_asked : Fold → Asked
 fold_asked f = record { right = constant f.value; places = []; class = f.class }
@@ -97,9 +101,9 @@ asked_of_each f (x ∷ xs) (ms ∷ found) = map (f x) ms ++ asked_of_each f xs f
 asked_of_each f _ _ = []
 
 -- what all of them ask for
-abbrev pub asked_of_all : List Rewrite → Unmet → List Asked
-asked_of_all axioms u =
+abbrev pub asked_of_all : AddedRules → Unmet → List Asked
+asked_of_all added u =
     asked_of_each rule_asked rows.equations u.equations.items
-    ++ asked_of_each rule_asked axioms u.program.items
-    ++ asked_of_each kind_asked calc_kinds u.kinds.items
+    ++ asked_of_each rule_asked added.axioms u.axioms.items
+    ++ asked_of_each kind_asked (calc_kinds ++ added.kinds) u.kinds.items
     ++ map fold_asked u.folds

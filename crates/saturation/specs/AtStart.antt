@@ -7,7 +7,7 @@ use Rattle.word_ops.specs.declared.sorts.Sort.{Sort}
 use Rattle.word_terms.specs.Keys.{op_signature}
 use Rattle.word_terms.specs.Sorting.{HasSort}
 use Rattle.word_terms.specs.Tree.{Tree}
-use Rattle.axiom_base.specs.Rewrites.{Rewrite}
+use Rattle.axiom_base.specs.Schemes.{AddedRules}
 use Rattle.egraph.specs.Graph.{Graph}
 use Rattle.egraph.specs.declared.faults.MergeFault.{MergeFault}
 use Rattle.egraph.specs.declared.faults.MergeFault.TheVariants as merging
@@ -28,28 +28,28 @@ pub record IsStarted (goal : GoalTree) (g : Graph Op) : Type 0 where
   pub inserted : AreInserted (present_terms goal) (record { rows = []; current = [] }) middle
   pub assumed : AreAssumed (assumed_pairs goal) middle g
 
--- it is the graph after no round, whatever the axioms are
+-- it is the graph after no round, whatever rules are added
 abbrev pub IsGrownAtStart : GoalTree → Graph Op → Type 0
-IsGrownAtStart goal g = (axioms : List Rewrite) → IsGrown axioms (present_terms goal) (assumed_pairs goal) g 0
+IsGrownAtStart goal g = (added : AddedRules) → IsGrown added (present_terms goal) (assumed_pairs goal) g 0
 
--- it stands for the goal's terms, whatever the axioms are
+-- it stands for the goal's terms, whatever rules are added
 abbrev pub StandsAtStart : GoalTree → Graph Op → Type 0
 StandsAtStart goal g =
-    (names : ℕ → List ℕ) (axioms : List Rewrite) →
-    GraphStands names axioms (assumed_pairs goal) (kept_terms goal) g
+    (names : ℕ → List ℕ) (added : AddedRules) →
+    GraphStands names added (assumed_pairs goal) (kept_terms goal) g
 
 -- two different constants are equal before any round
 abbrev pub StartFaultIs : GoalTree → StartFault → Type 0
 StartFaultIs goal (NoWorld class a b) =
-    (axioms : List Rewrite) → IsClash axioms (present_terms goal) (assumed_pairs goal) 0 a b
+    (added : AddedRules) → IsClash added (present_terms goal) (assumed_pairs goal) 0 a b
 StartFaultIs goal Memory = Unit {0}
 
 -- what is assumed holds in no world
 abbrev pub IsHopelessAtStart : GoalTree → StartFault → Type 0
 IsHopelessAtStart goal (NoWorld class a b) =
-    (names : ℕ → List ℕ) (axioms : List Rewrite) (world : World) →
+    (names : ℕ → List ℕ) (added : AddedRules) (world : World) →
     IsWorld world →
-    RulesHold world names axioms (assumed_pairs goal) →
+    RulesHold world names added (assumed_pairs goal) →
     ⊥
 IsHopelessAtStart goal Memory = Unit {0}
 

@@ -1,5 +1,5 @@
--- The terms of a goal, the equalities that it assumes of them, and the rules that an input's axioms give. Source: this
--- project.
+-- The terms of a goal, the equalities that it assumes of them, and the rules that an input's axioms and a library give.
+-- Source: this project.
 use Rattle.std.specs.Prelude.{ℕ, Bool, false, ◌||◌, ◌==◌, Option, Some, None, List, [], ◌∷◌, ◌++◌, map, length, replicate}
 use Rattle.std.specs.List.{filter, flat_map, range_with_len}
 use Rattle.word_ops.specs.declared.sorts.Op.{Op}
@@ -7,6 +7,9 @@ use Rattle.word_ops.specs.declared.sorts.Op.TheVariants.{Entry, Input}
 use Rattle.word_ops.specs.declared.sorts.Sort.TheVariants as sorts
 use Rattle.word_terms.specs.Tree.{Tree, Trees, variable, application, none, more, substituted}
 use Rattle.axiom_base.specs.Rewrites.{Rewrite, rewrite}
+use Rattle.axiom_base.specs.Schemes.{AddedRules}
+use Rattle.axiom_library.specs.Asked.{asked_axioms, asked_equations, asked_kinds}
+use Rattle.axiom_library.specs.declared.libraries.Library.{Library}
 use Rattle.goal_meaning.specs.Expanded.{expanded, let_terms}
 use Rattle.goal_meaning.specs.declared.goals.InputReg.{InputReg}
 use Rattle.goal_meaning.specs.Views.{TwoTrees, TargetTree, GoalTree, AxiomTree, InputTree}
@@ -91,5 +94,9 @@ renumbered a t =
 abbrev pub rule_of : AxiomTree → Rewrite
 rule_of a = rewrite (replicate (length (left_variables a)) sorts.Word) (renumbered a a.left) (renumbered a a.right)
 
-abbrev pub rules_of : InputTree → List Rewrite
-rules_of input = map rule_of input.axioms
+-- the rules that join those of every saturation: the axioms of the text and behind them what the library asks for
+abbrev pub rules_of : Library → InputTree → AddedRules
+rules_of library input = record {
+  axioms = map rule_of (input.axioms ++ asked_axioms library) ++ asked_equations library;
+  kinds = asked_kinds library;
+}

@@ -4,8 +4,7 @@ use Rattle.std.specs.Prelude.{◌≡◌, ◌≢◌, ℕ, ◌+◌, ◌<◌, ◌�
 use Rattle.word_ops.specs.declared.sorts.Op.{Op}
 use Rattle.word_terms.specs.Keys.{op_signature}
 use Rattle.word_terms.specs.Tree.{Tree}
-use Rattle.axiom_base.specs.Rewrites.{Rewrite}
-use Rattle.axiom_base.specs.Schemes.{Scheme, schemes}
+use Rattle.axiom_base.specs.Schemes.{AddedRules, Scheme, schemes}
 use Rattle.egraph.specs.Graph.{Graph, Agree, HasClass, IsGraph}
 use Rattle.pattern_match.specs.Classes.{IsClass, HaveOneClass}
 use Rattle.pattern_match.specs.Matches.{IsUnmetOf, AreNeeds}
@@ -17,55 +16,55 @@ AreInhabited {O} g = (c : ℕ) → HasClass g c → ((t : Tree O) × IsClass g [
 
 -- no row stands twice, rows name classes of the graph, each class is that of a term, and terms have one class exactly
 -- where j rounds make them equal
-pub record IsGrown (axioms : List Rewrite) (present : List (Tree Op)) (equal : List Pair) (g : Graph Op) (j : ℕ) :
+pub record IsGrown (added : AddedRules) (present : List (Tree Op)) (equal : List Pair) (g : Graph Op) (j : ℕ) :
     Type 0 where
   pub distinct : AllPairs (λ r t. ¬ Agree r t) g.rows
   pub operands : All (λ r. All (HasClass g) r.operands) g.rows
   pub inhabited : AreInhabited g
-  pub exact : (t u : Tree Op) → HaveOneClass g [] t u ↔ Derives axioms present equal j t u
+  pub exact : (t u : Tree Op) → HaveOneClass g [] t u ↔ Derives added present equal j t u
 
 -- no match of these schemes is unmet
 abbrev pub AreMet : Graph Op → List Scheme → Type 0
 AreMet g ss = (s : Scheme) → Contains ss s → (places : List ℕ) → ¬ IsUnmetOf g s places
 
 -- no match is unmet
-abbrev pub IsQuiet : List Rewrite → Graph Op → Type 0
-IsQuiet axioms g = (s : Scheme) → Contains (schemes axioms) s → (places : List ℕ) → ¬ IsUnmetOf g s places
+abbrev pub IsQuiet : AddedRules → Graph Op → Type 0
+IsQuiet added g = (s : Scheme) → Contains (schemes added) s → (places : List ℕ) → ¬ IsUnmetOf g s places
 
 -- the rows and what the unmet matches need pass the limit
-pub record IsFull (axioms : List Rewrite) (g : Graph Op) (nodes : ℕ) : Type 0 where
+pub record IsFull (added : AddedRules) (g : Graph Op) (nodes : ℕ) : Type 0 where
   pub need : ℕ
-  pub is : AreNeeds g (schemes axioms) need
+  pub is : AreNeeds g (schemes added) need
   pub passed : nodes < length g.rows + need
 
 -- the rows and what the unmet matches need don't pass the limit
-pub record IsWithin (axioms : List Rewrite) (g : Graph Op) (nodes : ℕ) : Type 0 where
+pub record IsWithin (added : AddedRules) (g : Graph Op) (nodes : ℕ) : Type 0 where
   pub need : ℕ
-  pub is : AreNeeds g (schemes axioms) need
+  pub is : AreNeeds g (schemes added) need
   pub within : length g.rows + need ≤ nodes
 
 -- the rounds end with this graph, which is the one after j of them
-abbrev pub Ends : List Rewrite → Graph Op → ℕ → ℕ → ℕ → Type 0
-Ends axioms g rounds nodes j = IsQuiet axioms g ⊎ (j ≡ rounds) ⊎ IsFull axioms g nodes
+abbrev pub Ends : AddedRules → Graph Op → ℕ → ℕ → ℕ → Type 0
+Ends added g rounds nodes j = IsQuiet added g ⊎ (j ≡ rounds) ⊎ IsFull added g nodes
 
 -- the graph after j rounds, with which they end, or go on
-pub record Halts (axioms : List Rewrite) (present : List (Tree Op)) (equal : List Pair) (rounds nodes j : ℕ) :
+pub record Halts (added : AddedRules) (present : List (Tree Op)) (equal : List Pair) (rounds nodes j : ℕ) :
     Type 0 where
   pub graph : Graph Op
   pub is_graph : IsGraph op_signature graph
-  pub grown : IsGrown axioms present equal graph j
-  pub ends : Ends axioms graph rounds nodes j
+  pub grown : IsGrown added present equal graph j
+  pub ends : Ends added graph rounds nodes j
 
-pub record GoesOnGrowing (axioms : List Rewrite) (present : List (Tree Op)) (equal : List Pair) (rounds nodes j : ℕ) :
+pub record GoesOnGrowing (added : AddedRules) (present : List (Tree Op)) (equal : List Pair) (rounds nodes j : ℕ) :
     Type 0 where
   pub graph : Graph Op
   pub is_graph : IsGraph op_signature graph
-  pub grown : IsGrown axioms present equal graph j
-  pub unmet : ¬ IsQuiet axioms graph
+  pub grown : IsGrown added present equal graph j
+  pub unmet : ¬ IsQuiet added graph
   pub asked : j ≢ rounds
-  pub within : IsWithin axioms graph nodes
+  pub within : IsWithin added graph nodes
 
 -- no number of rounds below j is their end
-abbrev pub NotBefore : List Rewrite → List (Tree Op) → List Pair → ℕ → ℕ → ℕ → Type 0
-NotBefore axioms present equal rounds nodes j =
-    (i : ℕ) → i < j → GoesOnGrowing axioms present equal rounds nodes i
+abbrev pub NotBefore : AddedRules → List (Tree Op) → List Pair → ℕ → ℕ → ℕ → Type 0
+NotBefore added present equal rounds nodes j =
+    (i : ℕ) → i < j → GoesOnGrowing added present equal rounds nodes i

@@ -6,7 +6,8 @@ use Rattle.word_ops.specs.declared.sorts.Op.TheVariants.{Input, Declared}
 use Rattle.word_ops.specs.declared.sorts.Arity.{Arity}
 use Rattle.word_terms.specs.Tree.{Tree}
 use Rattle.word_terms.specs.Keys.{op_signature}
-use Rattle.axiom_base.specs.Rewrites.{Rewrite, IsRule}
+use Rattle.axiom_base.specs.Rewrites.{IsRule}
+use Rattle.axiom_base.specs.Schemes.{AddedRules}
 use Rattle.egraph.specs.Graph.{Graph, IsGraph, HasClass}
 use Rattle.egraph.specs.Joined.{relabel}
 use Rattle.egraph.specs.declared.rows.Row.{Row}
@@ -65,14 +66,14 @@ pub record IsLaunched (declared : List DeclaredOp) (goal : GoalTree) (graph : Gr
 -- after each number of rounds that makes the first graph, the second one is made too
 abbrev pub KeepsGrown : Graph Op → Graph Op → Type 0
 KeepsGrown old new =
-    (axioms : List Rewrite) (present : List (Tree Op)) (equal : List Pair) (j : ℕ) →
-    IsGrown axioms present equal old j →
-    IsGrown axioms present equal new j
+    (added : AddedRules) (present : List (Tree Op)) (equal : List Pair) (j : ℕ) →
+    IsGrown added present equal old j →
+    IsGrown added present equal new j
 
 -- if rounds end with the first graph for a cause, they end with the second one for the same cause
 abbrev pub KeepsStop : Graph Op → Graph Op → Type 0
 KeepsStop old new =
-    (axioms : List Rewrite) (rounds nodes j : ℕ) (stop : Stop) →
-    All IsRule axioms →
-    StopIs axioms old rounds nodes j stop →
-    StopIs axioms new rounds nodes j stop
+    (added : AddedRules) (rounds nodes j : ℕ) (stop : Stop) →
+    All IsRule added.axioms →
+    StopIs added old rounds nodes j stop →
+    StopIs added new rounds nodes j stop

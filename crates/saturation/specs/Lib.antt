@@ -13,5 +13,4 @@ pub mod Numbered
 pub mod Renamed
 pub mod GoalTerms
 pub mod AtStart
-pub mod ProgramRules
 pub mod OverLets

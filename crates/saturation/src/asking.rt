@@ -6,8 +6,9 @@ ghost use Rattle.saturation.specs.Asking.{asked_of_each, asked_of_all, fold_aske
 ghost use Rattle.saturation.specs.Instances.{asked_of};
 
 use crate::instance::Instance;
+use crate::rule_lists::Rules;
 use crate::searching::Unmet;
-use axiom_base::{CALC_KINDS, Calc, Rule, calc_right};
+use axiom_base::{Calc, Given, Rule, calc_right};
 use items::{Items, NoMemory};
 use pattern_match::{Fold, Match};
 use std::alloc::Global;
@@ -15,22 +16,16 @@ use word_ops::Op;
 use word_terms::application;
 
 /// What the unmet matches of all rules ask for.
-pub(crate) fn ask(
-    alloc: Global,
-    equations: &[Rule],
-    program: &[Rule],
-    unmet: &Unmet,
-) -> Result<Vec<Instance>, NoMemory>
-    requires equations { equations.now ≡ rows.equations }
-    requires by_equation { length unmet.now.equations.items ≡ length equations.now }
-    requires by_rule { length unmet.now.program.items ≡ length program.now }
-    requires by_kind { length unmet.now.kinds.items ≡ length calc_kinds }
-    ensures asked { IfOk result (λ asked. map asked_of asked.items ≡ asked_of_all program.now unmet.now) }
+pub(crate) fn ask(alloc: Global, rules: &Rules, unmet: &Unmet) -> Result<Vec<Instance>, NoMemory>
+    requires by_equation { length unmet.now.equations.items ≡ length rows.equations }
+    requires by_axiom { length unmet.now.axioms.items ≡ length rules.now.axioms }
+    requires by_kind { length unmet.now.kinds.items ≡ length (calc_kinds ++ rules.now.kinds) }
+    ensures asked { IfOk result (λ asked. map asked_of asked.items ≡ asked_of_all rules.now unmet.now) }
 {
     let mut asked = Vec::new(alloc);
-    ask_rules(alloc, equations, &unmet.equations, &mut asked)?;
-    ask_rules(alloc, program, &unmet.program, &mut asked)?;
-    ask_kinds(alloc, &unmet.kinds, &mut asked)?;
+    ask_rules(alloc, rules.equations(), &unmet.equations, &mut asked)?;
+    ask_rules(alloc, rules.axioms(), &unmet.axioms, &mut asked)?;
+    ask_kinds(alloc, rules.kinds(), &unmet.kinds, &mut asked)?;
     ask_folds(alloc, unmet.folds.as_slice(), &mut asked)?;
     Ok(asked)
 }
@@ -73,14 +68,15 @@ fn ask_rule(
 
 fn ask_kinds(
     alloc: Global,
+    kinds: &[Calc],
     found: &[Items<Match>],
     asked: &mut Vec<Instance>,
 ) -> Result<(), NoMemory>
-    requires { length found.now ≡ length calc_kinds }
+    requires { length found.now ≡ length kinds.now }
     ensures { OnOk result (map asked_of asked.new.items
-        ≡ map asked_of asked.old.items ++ asked_of_each kind_asked calc_kinds found.now) }
+        ≡ map asked_of asked.old.items ++ asked_of_each kind_asked kinds.now found.now) }
 {
-    for (at, kind) in CALC_KINDS.iter().enumerate() {
+    for (at, kind) in kinds.iter().enumerate() {
         ask_kind(alloc, *kind, found[at].as_slice(), asked)?;
     }
     Ok(())
@@ -96,9 +92,9 @@ fn ask_kind(
         ≡ map asked_of asked.old.items ++ map (kind_asked kind) found.now) }
 {
     for one in found {
-        let e = one.given.unwrap_or(0);
+        let given = one.given.unwrap_or(Given { e: 0, f: 0 });
         asked.push(Instance {
-            right: calc_right(alloc, kind, e)?,
+            right: calc_right(alloc, kind, given)?,
             places: Items::from_slice(alloc, one.classes.as_slice())?,
             class: one.class,
         })?;

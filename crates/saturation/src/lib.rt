@@ -8,7 +8,8 @@
 //! world (`hopeless`). `start` gives a goal's graph before any round (`grown`, `stands`, `few_rows`). `to_launch`
 //! gives the launch graph (`launched`): the same equalities (`grown`), ended for the same cause (`stops`), with
 //! values that are those of the goal's terms in each world in which axioms and assumptions hold
-//! (`launched_graphs_stand`). Two graphs after one number of rounds differ in order and numbers alone
+//! (`launched_graphs_stand`). The axioms are those of the text: what a library asks for beside them is true in every
+//! world (`axioms_make_rules_true`). Two graphs after one number of rounds differ in order and numbers alone
 //! (`grown_graphs_are_one`); terms inserted before any round are the goal's as much as the others
 //! (`more_terms_may_be_inserted`).
 //!
@@ -32,6 +33,7 @@ mod needing;
 mod numbering;
 mod quiet;
 mod rounds;
+mod rule_lists;
 mod searching;
 mod stepping;
 
@@ -44,4 +46,5 @@ pub use launching::to_launch;
 pub use laws::{grown_graphs_are_one, rounds_end_once};
 pub use lets::{let_classes, lets_are_their_terms};
 pub use more_terms::more_terms_may_be_inserted;
-pub use rounds::{Rules, Saturated, saturate};
+pub use rounds::{Saturated, saturate};
+pub use rule_lists::Rules;

@@ -3,7 +3,7 @@ ghost use Rattle.std.specs.Prelude.{ℕ, List, [], ◌++◌, All};
 ghost use Rattle.word_ops.specs.declared.sorts.Op.{Op as TermOperator};
 ghost use Rattle.word_terms.specs.Keys.{op_signature};
 ghost use Rattle.word_terms.specs.Tree.{Tree};
-ghost use Rattle.axiom_base.specs.Rewrites.{Rewrite};
+ghost use Rattle.axiom_base.specs.Schemes.{AddedRules};
 ghost use Rattle.egraph.specs.Graph.{Graph, IsGraph};
 ghost use Rattle.pattern_match.specs.Classes.{IsClass};
 ghost use Rattle.saturation.specs.AtStart.{IsSorted};
@@ -19,18 +19,18 @@ use word_ops::meanings_are_in_range;
 /// was inserted has the class that it was given, and all others keep theirs. With more terms present no equality is
 /// lost.
 pub fn more_terms_may_be_inserted()
-    ensures grown { (axioms : List Rewrite) (present terms : List (Tree TermOperator)) (equal : List Pair)
+    ensures grown { (added : AddedRules) (present terms : List (Tree TermOperator)) (equal : List Pair)
         (g new : Graph TermOperator) → IsGraph op_signature g → AreInserted terms g new →
-        IsGrown axioms present equal g 0 → IsGrown axioms (present ++ terms) equal new 0 }
+        IsGrown added present equal g 0 → IsGrown added (present ++ terms) equal new 0 }
     ensures graph { (terms : List (Tree TermOperator)) (g new : Graph TermOperator) →
         IsGraph op_signature g → AreInserted terms g new → IsGraph op_signature new }
-    ensures stand { (names : ℕ → List ℕ) (axioms : List Rewrite) (equal : List Pair)
+    ensures stand { (names : ℕ → List ℕ) (added : AddedRules) (equal : List Pair)
         (kept terms : List (Tree TermOperator)) (g new : Graph TermOperator) →
         IsGraph op_signature g → All IsSorted terms → AreInserted terms g new →
-        GraphStands names axioms equal kept g → GraphStands names axioms equal (kept ++ terms) new }
-    ensures derived { (axioms : List Rewrite) (present terms : List (Tree TermOperator)) (equal : List Pair)
+        GraphStands names added equal kept g → GraphStands names added equal (kept ++ terms) new }
+    ensures derived { (added : AddedRules) (present terms : List (Tree TermOperator)) (equal : List Pair)
         (j : ℕ) (t u : Tree TermOperator) →
-        Derives axioms present equal j t u → Derives axioms (present ++ terms) equal j t u }
+        Derives added present equal j t u → Derives added (present ++ terms) equal j t u }
     ensures there { (t : Tree TermOperator) (c : ℕ) (g : Graph TermOperator) →
         IsGraph op_signature g → IsClass g [] t c → IsBuilt [] t g c g }
     ensures class { (t : Tree TermOperator) (c : ℕ) (g new : Graph TermOperator) →

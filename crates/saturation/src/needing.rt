@@ -1,10 +1,9 @@
 // What unmet matches need: the operators of their right sides, which are the most rows that a round adds.
 ghost use Rattle.std.specs.Prelude.{◌≡◌, ◌+◌, ◌-◌, ◌*◌, ◌^◌, min, length, IfOk};
-ghost use Rattle.axiom_base.specs.Schemes.{calc_kinds};
 ghost use Rattle.saturation.specs.Trace.{operators_asked};
 ghost use Rattle.saturation.specs.Asking.{asked_of_each, kind_asked, rule_asked};
 
-use axiom_base::{CALC_KINDS, Rule, calc_right};
+use axiom_base::{Calc, Given, Rule, calc_right};
 use items::{Items, NoMemory};
 use pattern_match::{Match, operators};
 use std::alloc::Global;
@@ -26,15 +25,16 @@ pub(crate) fn with_rules(before: u64, rules: &[Rule], found: &[Items<Match>]) ->
 pub(crate) fn with_kinds(
     alloc: Global,
     before: u64,
+    kinds: &[Calc],
     found: &[Items<Match>],
 ) -> Result<u64, NoMemory>
-    requires { length found.now ≡ length calc_kinds }
+    requires { length found.now ≡ length kinds.now }
     ensures { IfOk result (λ need. need
-        ≡ min (before + operators_asked (asked_of_each kind_asked calc_kinds found.now)) (2 ^ 64 - 1)) }
+        ≡ min (before + operators_asked (asked_of_each kind_asked kinds.now found.now)) (2 ^ 64 - 1)) }
 {
     let mut need = before;
-    for (at, kind) in CALC_KINDS.iter().enumerate() {
-        let right = calc_right(alloc, *kind, 0)?;
+    for (at, kind) in kinds.iter().enumerate() {
+        let right = calc_right(alloc, *kind, Given { e: 0, f: 0 })?;
         need = with_matches(need, found[at].len(), operators(&right));
     }
     Ok(need)

@@ -1,56 +1,48 @@
 // Whether a match is unmet at all.
 ghost use Rattle.std.specs.Prelude.{◌≡◌, ◌↔◌, map, IsTrue, IfOk};
 ghost use Rattle.word_terms.specs.Keys.{op_signature};
-ghost use Rattle.axiom_base.specs.Equations as rows;
-ghost use Rattle.axiom_base.specs.Schemes.{plain, computed, calc_kinds};
+ghost use Rattle.axiom_base.specs.Schemes.{plain, computed};
 ghost use Rattle.egraph.specs.Graph.{IsGraph};
 ghost use Rattle.pattern_match.specs.ByOperator.{AreTables};
 ghost use Rattle.saturation.specs.Grown.{AreMet, IsQuiet};
 
-use axiom_base::{CALC_KINDS, Rule};
+use crate::rule_lists::Rules;
+use axiom_base::{Calc, Rule};
 use egraph::Egraph;
 use items::NoMemory;
 use pattern_match::{RowTables, find_calc_unmet, find_unmet, folds, matches_have_sorts};
 use std::alloc::Global;
 use word_ops::{Op, operators_are_listed};
 
-/// Whether no match is unmet, of the rules of every text and of the program's own. The search ends with the first unmet
-/// match.
-pub(crate) fn is_quiet(
-    alloc: Global,
-    graph: &Egraph<Op>,
-    equations: &[Rule],
-    program: &[Rule],
-) -> Result<bool, NoMemory>
+/// Whether no match is unmet, of the rules of every text and of those that join them. The search ends with the first
+/// unmet match.
+pub(crate) fn is_quiet(alloc: Global, graph: &Egraph<Op>, rules: &Rules) -> Result<bool, NoMemory>
     requires graph { IsGraph op_signature graph.now }
-    requires equations { equations.now ≡ rows.equations }
-    ensures { IfOk result (λ quiet. IsTrue quiet ↔ IsQuiet program.now graph.now) }
+    ensures { IfOk result (λ quiet. IsTrue quiet ↔ IsQuiet rules.now graph.now) }
 {
     let tables = RowTables::new(alloc, graph)?;
-    is_quiet_by(alloc, graph, &tables, equations, program)
+    is_quiet_by(alloc, graph, &tables, rules)
 }
 
 fn is_quiet_by(
     alloc: Global,
     graph: &Egraph<Op>,
     tables: &RowTables,
-    equations: &[Rule],
-    program: &[Rule],
+    rules: &Rules,
 ) -> Result<bool, NoMemory>
     requires graph { IsGraph op_signature graph.now }
     requires tables { AreTables graph.now tables.now }
-    requires equations { equations.now ≡ rows.equations }
-    ensures { IfOk result (λ quiet. IsTrue quiet ↔ IsQuiet program.now graph.now) }
+    ensures { IfOk result (λ quiet. IsTrue quiet ↔ IsQuiet rules.now graph.now) }
 {
     operators_are_listed();
     matches_have_sorts();
-    if !are_met(alloc, graph, tables, equations)? {
+    if !are_met(alloc, graph, tables, rules.equations())? {
         return Ok(false);
     }
-    if !are_met(alloc, graph, tables, program)? {
+    if !are_met(alloc, graph, tables, rules.axioms())? {
         return Ok(false);
     }
-    if !are_kinds_met(alloc, graph, tables)? {
+    if !are_kinds_met(alloc, graph, tables, rules.kinds())? {
         return Ok(false);
     }
     let found = folds(alloc, graph)?;
@@ -76,12 +68,17 @@ fn are_met(
     Ok(true)
 }
 
-fn are_kinds_met(alloc: Global, graph: &Egraph<Op>, tables: &RowTables) -> Result<bool, NoMemory>
+fn are_kinds_met(
+    alloc: Global,
+    graph: &Egraph<Op>,
+    tables: &RowTables,
+    kinds: &[Calc],
+) -> Result<bool, NoMemory>
     requires graph { IsGraph op_signature graph.now }
     requires tables { AreTables graph.now tables.now }
-    ensures { IfOk result (λ met. IsTrue met ↔ AreMet graph.now (map computed calc_kinds)) }
+    ensures { IfOk result (λ met. IsTrue met ↔ AreMet graph.now (map computed kinds.now)) }
 {
-    for kind in &CALC_KINDS {
+    for kind in kinds {
         let found = find_calc_unmet(alloc, graph, tables, *kind)?;
         if found.len() > 0 {
             return Ok(false);

@@ -1,40 +1,17 @@
 // Rounds of matching, and when they end.
 ghost use Rattle.std.specs.Prelude.{◌≡◌, ◌≤◌, ◌<◌, ◌^◌, length, max, IfOk, IfErr};
-ghost use Rattle.axiom_base.specs.Equations as rows;
 ghost use Rattle.saturation.specs.Rounds.{IsSaturated, KeepsClasses, KeepsStanding, SaturateFaultIs, IsHopeless, RoundsNameLowClass};
 
 use crate::applying::apply_all;
 use crate::faults::SaturateFault;
+use crate::rule_lists::Rules;
 use crate::stepping::{Step, decide};
-use axiom_base::{Rule, computed_rules_are_true, constants_are_numbered, schemes_are_true};
+use axiom_base::{computed_rules_are_true, constants_are_numbered, schemes_are_true};
 use egraph::{Egraph, MergeFault};
 use graph_meaning::Stop;
-use items::{Items, NoMemory};
+use items::NoMemory;
 use std::alloc::Global;
-use std::marker::Model;
 use word_ops::{Op, meanings_are_in_range};
-
-/// The equations and a program's own rules, which serve for all goals of a text. Computed rules and folding always
-/// apply.
-#[derive(Drop)]
-pub struct Rules {
-    pub(crate) equations: Items<Rule>,
-    pub(crate) program: Items<Rule>,
-}
-
-impl Model for Rules {
-    ghost use Rattle.std.specs.Prelude.{◌≡◌};
-    ghost use Rattle.axiom_base.specs.Equations as rows;
-    ghost use Rattle.saturation.specs.ProgramRules.{ProgramRules, program_rules_code};
-
-    ghost Value = { ProgramRules };
-
-    ghost coded = { program_rules_code };
-
-    ghost view = { λ r. record { program = r.program } };
-
-    ghost invariant = { λ r. r.equations ≡ rows.equations };
-}
 
 /// A graph after rounds of matching.
 #[derive(Drop)]
@@ -57,45 +34,13 @@ pub fn saturate(
     requires rounds { rounds ≤ 16 }
     requires nodes { nodes ≤ 4096 }
     requires few { length graph.current < 2 ^ 30 }
-    ensures saturated { IfOk result (λ s. IsSaturated rules.now.program graph rounds nodes s.graph s.rounds s.stop) }
+    ensures saturated { IfOk result (λ s. IsSaturated rules.now graph rounds nodes s.graph s.rounds s.stop) }
     ensures rounds { IfOk result (λ s. s.rounds ≤ rounds) }
-    ensures stands { IfOk result (λ s. KeepsStanding rules.now.program graph s.graph) }
+    ensures stands { IfOk result (λ s. KeepsStanding rules.now graph s.graph) }
     ensures classes { IfOk result (λ s. KeepsClasses graph s.graph) }
     ensures few { IfOk result (λ s. length s.graph.rows ≤ max (length graph.rows) nodes) }
-    ensures fault { IfErr result (SaturateFaultIs rules.now.program graph rounds nodes) }
-    ensures hopeless { IfErr result (IsHopeless rules.now.program graph) }
-    ensures low { IfErr result RoundsNameLowClass }
-{
-    grow(
-        alloc,
-        graph,
-        rules.equations.as_slice(),
-        rules.program.as_slice(),
-        rounds,
-        nodes,
-    )
-}
-
-// The rounds, with the equations and the program's own rules.
-fn grow(
-    alloc: Global,
-    graph: Egraph<Op>,
-    equations: &[Rule],
-    program: &[Rule],
-    rounds: u32,
-    nodes: u32,
-) -> Result<Saturated, SaturateFault>
-    requires equations { equations.now ≡ rows.equations }
-    requires rounds { rounds ≤ 16 }
-    requires nodes { nodes ≤ 4096 }
-    requires few { length graph.current < 2 ^ 30 }
-    ensures saturated { IfOk result (λ s. IsSaturated program.now graph rounds nodes s.graph s.rounds s.stop) }
-    ensures rounds { IfOk result (λ s. s.rounds ≤ rounds) }
-    ensures stands { IfOk result (λ s. KeepsStanding program.now graph s.graph) }
-    ensures classes { IfOk result (λ s. KeepsClasses graph s.graph) }
-    ensures few { IfOk result (λ s. length s.graph.rows ≤ max (length graph.rows) nodes) }
-    ensures fault { IfErr result (SaturateFaultIs program.now graph rounds nodes) }
-    ensures hopeless { IfErr result (IsHopeless program.now graph) }
+    ensures fault { IfErr result (SaturateFaultIs rules.now graph rounds nodes) }
+    ensures hopeless { IfErr result (IsHopeless rules.now graph) }
     ensures low { IfErr result RoundsNameLowClass }
 {
     schemes_are_true();
@@ -107,7 +52,7 @@ fn grow(
     loop {
         // A graph keeps its invariant, which is known here once one of its methods was called.
         let _made = graph.made();
-        match decide(alloc, &graph, equations, program, done == rounds, nodes)? {
+        match decide(alloc, &graph, rules, done == rounds, nodes)? {
             Step::End(stop) => {
                 return Ok(Saturated {
                     graph,

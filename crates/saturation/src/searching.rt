@@ -2,9 +2,8 @@
 ghost use Rattle.std.specs.Prelude.{◌≡◌, ◌<◌, ◌*◌, ◌-◌, ◌^◌, ℕ, map, min, All, IfOk, MatchOption};
 ghost use Rattle.std.specs.List.{AllZip};
 ghost use Rattle.word_terms.specs.Keys.{op_signature};
-ghost use Rattle.axiom_base.specs.Equations as rows;
 ghost use Rattle.axiom_base.specs.Rewrites.{IsRule};
-ghost use Rattle.axiom_base.specs.Schemes.{plain, calc_kinds};
+ghost use Rattle.axiom_base.specs.Schemes.{plain};
 ghost use Rattle.egraph.specs.Graph.{IsGraph};
 ghost use Rattle.pattern_match.specs.ByOperator.{AreTables};
 ghost use Rattle.saturation.specs.Asking.{AreFound, AreUnmetOf, AreUnmetOfKind, NeedMoreThan, RuleNeedsMore, asked_of_all};
@@ -12,7 +11,8 @@ ghost use Rattle.saturation.specs.Steps.{IsOver};
 ghost use Rattle.saturation.specs.Trace.{operators_asked};
 
 use crate::needing::{with_kinds, with_matches, with_rules};
-use axiom_base::{CALC_KINDS, Rule, schemes_are_true};
+use crate::rule_lists::Rules;
+use axiom_base::{Calc, Rule, schemes_are_true};
 use egraph::Egraph;
 use items::{Items, NoMemory};
 use pattern_match::{
@@ -21,59 +21,59 @@ use pattern_match::{
 use std::alloc::Global;
 use word_ops::{Op, operators_are_listed};
 
-/// The unmet matches of each rule: of the equations, of the program's own rules, of the computed rules by their kinds,
-/// and of folding.
+/// The unmet matches of each rule: of the equations, of the axioms, of the computed rules by their kinds, and of
+/// folding.
 #[derive(Drop)]
 pub struct Unmet {
     pub equations: Vec<Items<Match>>,
-    pub program: Vec<Items<Match>>,
+    pub axioms: Vec<Items<Match>>,
     pub kinds: Vec<Items<Match>>,
     pub folds: Items<Fold>,
     /// The operators of the right sides of all of them, or 2 ^ 64 - 1 if that is less.
     pub need: u64,
 }
 
-/// The unmet matches of all rules, the program's own among them, or `None` where the rows, with what the matches need,
-/// pass the limit. The graph's rows are put into tables once, and the search ends with the first match that passes the
-/// limit.
+/// The unmet matches of all rules, or `None` where the rows, with what the matches need, pass the limit. The graph's
+/// rows are put into tables once, and the search ends with the first match that passes the limit.
 pub(crate) fn search(
     alloc: Global,
     graph: &Egraph<Op>,
-    equations: &[Rule],
-    program: &[Rule],
+    rules: &Rules,
     nodes: u32,
 ) -> Result<Option<Unmet>, NoMemory>
     requires graph { IsGraph op_signature graph.now }
-    requires equations { equations.now ≡ rows.equations }
     ensures found { IfOk result (λ found. MatchOption found
-        (IsOver program.now graph.now nodes)
-        (λ unmet. AreFound graph.now program.now unmet × All IsRule program.now
-        × (unmet.need ≡ min (operators_asked (asked_of_all program.now unmet)) (2 ^ 64 - 1)))) }
+        (IsOver rules.now graph.now nodes)
+        (λ unmet. AreFound graph.now rules.now unmet × All IsRule rules.now.axioms
+        × (unmet.need ≡ min (operators_asked (asked_of_all rules.now unmet)) (2 ^ 64 - 1)))) }
 {
     schemes_are_true();
     operators_are_listed();
     matches_have_sorts();
     let tables = RowTables::new(alloc, graph)?;
     let folds = folds(alloc, graph)?;
-    let kinds = search_kinds(alloc, graph, &tables)?;
-    let before = with_kinds(alloc, folds.len() as u64, &kinds)?;
+    let kinds = rules.kinds();
+    let by_kind = search_kinds(alloc, graph, &tables, kinds)?;
+    let before = with_kinds(alloc, folds.len() as u64, kinds, &by_kind)?;
     let room = u64::from(nodes).saturating_sub(u64::from(graph.rows()));
     if before > room {
         return Ok(None);
     }
+    let equations = rules.equations();
     let Some(by_equation) = search_rules(alloc, graph, &tables, equations, room - before)? else {
         return Ok(None);
     };
     let so_far = with_rules(before, equations, &by_equation);
     let left = room.saturating_sub(so_far);
-    let Some(by_rule) = search_rules(alloc, graph, &tables, program, left)? else {
+    let axioms = rules.axioms();
+    let Some(by_axiom) = search_rules(alloc, graph, &tables, axioms, left)? else {
         return Ok(None);
     };
-    let need = with_rules(so_far, program, &by_rule);
+    let need = with_rules(so_far, axioms, &by_axiom);
     Ok(Some(Unmet {
         equations: by_equation,
-        program: by_rule,
-        kinds,
+        axioms: by_axiom,
+        kinds: by_kind,
         folds,
         need,
     }))
@@ -147,13 +147,14 @@ fn search_kinds(
     alloc: Global,
     graph: &Egraph<Op>,
     tables: &RowTables,
+    kinds: &[Calc],
 ) -> Result<Vec<Items<Match>>, NoMemory>
     requires graph { IsGraph op_signature graph.now }
     requires tables { AreTables graph.now tables.now }
-    ensures found { IfOk result (λ found. AllZip (AreUnmetOfKind graph.now) calc_kinds found.items) }
+    ensures found { IfOk result (λ found. AllZip (AreUnmetOfKind graph.now) kinds.now found.items) }
 {
     let mut found = Vec::new(alloc);
-    for kind in &CALC_KINDS {
+    for kind in kinds {
         found.push(find_calc_unmet(alloc, graph, tables, *kind)?)?;
     }
     Ok(found)

@@ -1,7 +1,6 @@
 // Whether rounds end with a graph, and what the next one asks for where they go on.
 ghost use Rattle.std.specs.Prelude.{◌≡◌, ◌≢◌, ◌≤◌, ◌+◌, MatchOption, IfOk};
 ghost use Rattle.word_terms.specs.Keys.{op_signature};
-ghost use Rattle.axiom_base.specs.Equations as rows;
 ghost use Rattle.egraph.specs.Graph.{IsGraph};
 ghost use Rattle.saturation.specs.Asking.{StopFits};
 ghost use Rattle.saturation.specs.Steps.{StepFits};
@@ -9,8 +8,9 @@ ghost use Rattle.saturation.specs.Steps.{StepFits};
 use crate::asking::ask;
 use crate::instance::Instance;
 use crate::quiet::is_quiet;
+use crate::rule_lists::Rules;
 use crate::searching::search;
-use axiom_base::{Rule, schemes_are_true};
+use axiom_base::schemes_are_true;
 use egraph::Egraph;
 use graph_meaning::Stop;
 use items::NoMemory;
@@ -32,29 +32,27 @@ pub(crate) enum Step {
 pub(crate) fn decide(
     alloc: Global,
     graph: &Egraph<Op>,
-    equations: &[Rule],
-    program: &[Rule],
+    rules: &Rules,
     last: bool,
     nodes: u32,
 ) -> Result<Step, NoMemory>
     requires graph { IsGraph op_signature graph.now }
-    requires equations { equations.now ≡ rows.equations }
     requires nodes { nodes ≤ 4096 }
-    ensures step { IfOk result (StepFits program.now graph.now last nodes) }
+    ensures step { IfOk result (StepFits rules.now graph.now last nodes) }
 {
     schemes_are_true();
     operators_are_listed();
     matches_have_sorts();
     if last {
-        if is_quiet(alloc, graph, equations, program)? {
+        if is_quiet(alloc, graph, rules)? {
             return Ok(Step::End(Stop::Quiet));
         }
         return Ok(Step::End(Stop::Rounds));
     }
-    let Some(unmet) = search(alloc, graph, equations, program, nodes)? else {
+    let Some(unmet) = search(alloc, graph, rules, nodes)? else {
         return Ok(Step::End(Stop::Full));
     };
-    let asked = ask(alloc, equations, program, &unmet)?;
+    let asked = ask(alloc, rules, &unmet)?;
     match stop_of(asked.len(), unmet.need, graph.rows(), nodes) {
         Some(stop) => Ok(Step::End(stop)),
         None => Ok(Step::Round(asked)),

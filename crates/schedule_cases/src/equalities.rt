@@ -1,5 +1,5 @@
 // Rewrite rules, and the constants that computed rules give.
-use axiom_base::{CALC_KINDS, Calc, calc, calc_left, calc_right};
+use axiom_base::{CALC_KINDS, Calc, FURTHER_KINDS, Given, calc, calc_left, calc_right};
 use case_files::{Trouble, Words, put, put_number};
 use itoa::Buffer;
 use std::alloc::Global;
@@ -71,25 +71,35 @@ pub(crate) fn equations(alloc: Global, input: &[u8]) -> Result<Vec<u8>, Trouble>
 
 /// The kind of computed rules of a number, from 1.
 pub(crate) fn kind_of(number: u32) -> Result<Calc, Trouble> {
-    match CALC_KINDS.get(number.wrapping_sub(1) as usize) {
+    let at = number.wrapping_sub(1) as usize;
+    if let Some(kind) = CALC_KINDS.get(at) {
+        return Ok(*kind);
+    }
+    match FURTHER_KINDS.get(at.wrapping_sub(CALC_KINDS.len())) {
         Some(kind) => Ok(*kind),
         None => Err(Trouble::Unread),
     }
 }
 
-/// The sides of a computed rule, by its kind's number and the constant that is given.
+/// The sides of a computed rule, by its kind's number and the constants that are given: one or two.
 pub(crate) fn computed(alloc: Global, input: &[u8]) -> Result<Vec<u8>, Trouble> {
     let mut words = Words { rest: input };
     let kind = kind_of(words.small()?)?;
-    let given = words.number()?;
+    let e = words.number()?;
+    let f = if words.rest.is_empty() {
+        0
+    } else {
+        words.number()?
+    };
     sides(
         alloc,
         &calc_left(alloc, kind)?,
-        &calc_right(alloc, kind, given)?,
+        &calc_right(alloc, kind, Given { e, f })?,
     )
 }
 
-/// What a computed rule gives for constants, by its kind's number.
+/// What a computed rule gives for constants, by its kind's number: one constant, or two, of which the second is never
+/// 0.
 pub(crate) fn constants(alloc: Global, input: &[u8]) -> Result<Vec<u8>, Trouble> {
     let mut words = Words { rest: input };
     let kind = kind_of(words.small()?)?;
@@ -105,7 +115,10 @@ pub(crate) fn constants(alloc: Global, input: &[u8]) -> Result<Vec<u8>, Trouble>
     match calc(kind, &values) {
         Some(given) => {
             put(&mut report, b"gives")?;
-            put_number(&mut report, given)?;
+            put_number(&mut report, given.e)?;
+            if given.f != 0 {
+                put_number(&mut report, given.f)?;
+            }
             put(&mut report, b"\n")?;
         }
         None => put(&mut report, b"none\n")?,

@@ -3,7 +3,9 @@ ghost use Rattle.std.specs.Prelude.{◌<◌, ◌≤◌, ◌^◌, Contains, lengt
 ghost use Rattle.goal_meaning.specs.Views.{goal_view, input_view};
 ghost use Rattle.goal_meaning.specs.WellFormed.{IsInput};
 
+use axiom_library::Library;
 use case_files::{Trouble, Words, faulty, put, put_number, put_numbers, split_line};
+use case_inputs::library_in;
 use goal_reader::{Goal, Input, read, read_inputs_are_well_formed};
 use graph_meaning::{LaunchGraph, Stop};
 use items::NoMemory;
@@ -60,19 +62,26 @@ fn grown_goal(
     goal: &Goal,
     rounds: u32,
     nodes: u32,
+    library: Library,
 ) -> Result<Saturated, Refused>
     requires input { IsInput (input_view input.now) }
     requires goal { Contains (input_view input.now).goals (goal_view goal.now) }
     requires rounds { rounds ≤ 16 }
     requires nodes { nodes ≤ 4096 }
 {
-    let program = rules(alloc, input)?;
+    let rules = rules(alloc, input, library)?;
     let graph = start(alloc, goal)?;
-    Ok(saturate(alloc, graph, &program, rounds, nodes)?)
+    Ok(saturate(alloc, graph, &rules, rounds, nodes)?)
 }
 
 /// The first goal of the text after rounds.
-fn grown(alloc: Global, text: &[u8], rounds: u32, nodes: u32) -> Result<Saturated, Refused>
+fn grown(
+    alloc: Global,
+    text: &[u8],
+    rounds: u32,
+    nodes: u32,
+    library: Library,
+) -> Result<Saturated, Refused>
     requires text { length text.now < 2 ^ 29 }
     requires rounds { rounds ≤ 16 }
     requires nodes { nodes ≤ 4096 }
@@ -82,11 +91,12 @@ fn grown(alloc: Global, text: &[u8], rounds: u32, nodes: u32) -> Result<Saturate
     let Some(goal) = input.goals.as_slice().first() else {
         return Err(Refused::Memory);
     };
-    grown_goal(alloc, &input, goal, rounds, nodes)
+    grown_goal(alloc, &input, goal, rounds, nodes, library)
 }
 
-/// Input: a line `ROUNDS NODES` and a text. Answers with the rows, rounds and stop of its first goal's graph after at
-/// most ROUNDS rounds and with the limit NODES on rows, or with the two constants that met.
+/// Input: a line `ROUNDS NODES FAMILY..` and a text. Answers with the rows, rounds and stop of its first goal's graph
+/// after at most ROUNDS rounds and with the limit NODES on rows, with the rules of the families' library, or with the
+/// two constants that met.
 pub(crate) fn rounds(alloc: Global, input: &[u8]) -> Result<Vec<u8>, Trouble>
     requires { length input.now ≤ 2 ^ 24 }
 {
@@ -96,8 +106,9 @@ pub(crate) fn rounds(alloc: Global, input: &[u8]) -> Result<Vec<u8>, Trouble>
     if rounds > 16 || nodes > 4096 {
         return Err(Trouble::Unread);
     }
+    let library = library_in(&mut words)?;
     let mut report = Vec::new(alloc);
-    match grown(alloc, text, rounds, nodes) {
+    match grown(alloc, text, rounds, nodes, library) {
         Ok(grown) => {
             put(&mut report, b"rows")?;
             put_number(&mut report, u64::from(grown.graph.rows()))?;
@@ -125,9 +136,10 @@ fn first_graph(alloc: Global, input: &Input, goal: &Goal) -> Result<LaunchGraph,
     requires goal { Contains (input_view input.now).goals (goal_view goal.now) }
 {
     grown_graphs_can_be_launched();
-    let program = rules(alloc, input)?;
+    let none = Library::none();
+    let rules = rules(alloc, input, none)?;
     let graph = start(alloc, goal)?;
-    let grown = saturate(alloc, graph, &program, 0, 512)?;
+    let grown = saturate(alloc, graph, &rules, 0, 512)?;
     Ok(to_launch(alloc, &grown, goal, input)?)
 }
 

@@ -1,4 +1,5 @@
 use Rattle.std.proofs.Common.{length}
+use Rattle.answer_texts.proofs.LibraryLines.{family_laws}
 use Rattle.answer_texts.proofs.PrintedBack.{answer_back}
 use Rattle.answer_texts.proofs.PrintedLaws.{reads_printed}
 use Rattle.answer_texts.proofs.PrintedLines.{WordLaws}
@@ -18,6 +19,7 @@ returns c =
     } in
     record {
       read = reads_printed c.printed_lines_are_lines.ensures.lines c.printed_lines_are_read_back.ensures.among
+          (family_laws c.families_have_names.ensures.differ c.libraries_have_families.ensures.back)
           c.one_graph.ensures.printed c.one_graph_of_each_version.ensures.printed laws;
       printable = λ text answer h.
           answer_back h.lines c.tables_keep_limits.ensures.built_in (length h.lines) answer h.says;

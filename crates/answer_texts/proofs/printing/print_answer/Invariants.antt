@@ -8,5 +8,5 @@ use Rattle.answer_texts.proofs.printing.print_answer.Given as goal
 abbrev pub invariant-loop-goal : goal.invariant-loop-goal
 invariant-loop-goal l =
     l.text.items
-    ≡ lines_text (head_lines l.answer.version l.answer.encoding l.answer.table l.answer.builtin)
+    ≡ lines_text (head_lines l.answer.version l.answer.encoding l.answer.table l.answer.builtin l.answer.library)
     ++ lines_text (flat_map (goal_lines l.answer.table) (take l.goal-index l.answer.goals))

@@ -1,5 +1,5 @@
 use Rattle.std.proofs.Common.{◌≡◌, drop, find, bytes_eq}
-use Rattle.axiom_texts.specs.Names.{family_name}
+use Rattle.axiom_library.specs.Names.{family_name}
 use Rattle.axiom_texts.proofs.names.first_named.Given as goal
 
 abbrev pub invariant-loop-family : goal.invariant-loop-family

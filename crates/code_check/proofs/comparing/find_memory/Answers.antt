@@ -1,4 +1,4 @@
-use Rattle.std.proofs.Common.{ℕ, List, [], length, map, rules, sym, subst, ◌∙◌}
+use Rattle.std.proofs.Common.{List, [], length, map, rules, sym, subst, ◌∙◌}
 use Rattle.std.specs.List.{AllZip}
 use Rattle.std.proofs.lemmas.Result.{IfOk-weaker}
 use Rattle.word_ops.specs.declared.sorts.Op.{Op}

@@ -1,8 +1,6 @@
-use Rattle.std.proofs.Common.{ℕ, List}
+use Rattle.std.proofs.Common.{ℕ}
 use Rattle.std.specs.Prelude.{MatchOption}
 use Rattle.std.proofs.lemmas.Result.{IfOk-weaker}
-use Rattle.word_ops.specs.declared.sorts.Op.{Op}
-use Rattle.word_terms.specs.Tree.{Tree}
 use Rattle.word_terms.specs.View.{tree_of}
 use Rattle.pattern_match.specs.Classes.{IsClass}
 use Rattle.code_check.proofs.Comparisons.{found_over}

@@ -6,9 +6,9 @@ use Rattle.code_check.proofs.laws.same_code_does_the_goal.Goals as goal
 
 pub returns : goal.returns
 returns c = record {
-  does_goal = λ input goal words instrs places terms graph is_input is_goal code few low stands same world is_world holds.
+  does_goal = λ input goal words instrs places terms graph library is_input is_goal code few low stands same world is_world holds.
       let names = declared_name input.ops in
-      let v = stands.values world is_world (c.axioms_make_rules_true.ensures.true_rules input goal world is_input holds) in
+      let v = stands.values world is_world (c.axioms_make_rules_true.ensures.true_rules library input goal world is_input holds) in
       decided c.steps_add_up.ensures.last c.steps_add_up.ensures.sums c.steps_add_up.ensures.stays c.steps_add_up.ensures.steps
       c.classes_are_multiples.ensures.shown c.classes_are_multiples.ensures.few world input.ops
       (one_step world names c.displacements_are_low_bits.ensures.low c.displacements_are_low_bits.ensures.high

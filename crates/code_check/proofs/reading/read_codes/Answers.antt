@@ -1,4 +1,4 @@
-use Rattle.std.proofs.Common.{◌+◌, ◌++◌, List, [], ◌∷◌, length, map, take, sym, ap, subst, arith, refl}
+use Rattle.std.proofs.Common.{◌++◌, List, [], ◌∷◌, length, map, take, sym, ap, subst, arith, refl}
 use Rattle.std.proofs.lemmas.List.{length-map, nil_from_length, take_all}
 use Rattle.std.proofs.lemmas.Result.{err_from_is_err_and}
 use Rattle.forms.specs.Forms.{Form, sexp_form, sexp_forms}

@@ -12,8 +12,8 @@ use Rattle.code_check.proofs.replies.tell.Goals.{After-index-codes-index}
 
 pub loop-index-init : goal.loop-index-init
 loop-index-init c =
-    subst (λ bs. AreSaid (input_view c.args.input.now) c.args.rounds c.args.nodes [] bs false false) (sym c.new-bytes.ensures.items)
-    (nothing_said (input_view c.args.input.now) c.args.rounds c.args.nodes)
+    subst (λ bs. AreSaid (input_view c.args.input.now) c.args.rounds c.args.nodes c.args.library [] bs false false) (sym c.new-bytes.ensures.items)
+    (nothing_said (input_view c.args.input.now) c.args.rounds c.args.nodes c.args.library)
 
 -- the code that is checked
 code_is : (c : After-index-codes-index) → IsCodeOf (input_view c.args.input.now) c.index-codes-index.result
@@ -24,7 +24,6 @@ code_is c =
 pub verify_by_rules-requires : goal.verify_by_rules-requires
 verify_by_rules-requires c = record {
   input = c.requires.input;
-  rules = c.requires.rules;
   code = code_is (goal.at.verify_by_rules-requires c).After-index-codes-index;
   rounds = c.requires.rounds;
   nodes = c.requires.nodes;
@@ -44,9 +43,9 @@ put_reply-requires c =
     let answer = c.in_ok-answer.answer in
     let g = c.index-as_slice-at.result in
     let there = goal_there c.args.input.now.goals c.as_slice.result.now code.goal g c.as_slice.ensures (goal_low c.args.input.now.goals code.goal of.goal of.of_goal) c.index-as_slice-at.is in
-    let reply = reply_is input c.args.rounds c.args.nodes code answer of c.in_ok-answer.ensures.right in
+    let reply = reply_is input c.args.rounds c.args.nodes c.args.library code answer of (c.in_ok-answer.ensures.right c.args.library c.in_ok-rules.ensures.rules) in
     let same = same_Some reply.goal (goal_view g) (sym reply.of_goal ∙ there) in
-    record { said = subst (λ (x : GoalTree). CanBeSaid x answer) same (can_be_said input reply.goal reply.instrs code c.args.rounds c.args.nodes answer reply.right) }
+    record { said = subst (λ (x : GoalTree). CanBeSaid x answer) same (can_be_said input reply.goal reply.instrs code c.args.rounds c.args.nodes c.args.library answer reply.right) }
 
 pub loop-index-preserved : goal.loop-index-preserved
 loop-index-preserved c =
@@ -58,19 +57,19 @@ loop-index-preserved c =
     let i = c.loop-index.index in
     let codes = c.args.codes.now in
     let there = goal_there c.args.input.now.goals c.as_slice.result.now code.goal g c.as_slice.ensures (goal_low c.args.input.now.goals code.goal of.goal of.of_goal) c.index-as_slice-at.is in
-    let reply = reply_is input c.args.rounds c.args.nodes code answer of c.in_ok-answer.ensures.right in
-    let said = said_more input c.args.rounds c.args.nodes (take i codes) c.loop-index.bytes.items c.loop-index.unknown c.loop-index.noworld code answer (goal_view g) c.loop-index.invariant reply there in
+    let reply = reply_is input c.args.rounds c.args.nodes c.args.library code answer of (c.in_ok-answer.ensures.right c.args.library c.in_ok-rules.ensures.rules) in
+    let said = said_more input c.args.rounds c.args.nodes c.args.library (take i codes) c.loop-index.bytes.items c.loop-index.unknown c.loop-index.noworld code answer (goal_view g) c.loop-index.invariant reply there in
     let more : take i codes ++ code ∷ [] ≡ take (i + 1) codes = sym (take_more codes i code c.loop-index-test.true ∙ ap (λ (x : Code). take i codes ++ x ∷ []) (sym c.index-codes-index.is)) in
-    let with_bytes = subst (λ bs. AreSaid input c.args.rounds c.args.nodes (take i codes ++ code ∷ []) bs (c.loop-index.unknown || is_unknown answer) (c.loop-index.noworld || is_no_world answer)) (sym c.in_ok-put_reply.ensures) said in
-    let with_unknown = subst (λ b. AreSaid input c.args.rounds c.args.nodes (take i codes ++ code ∷ []) c.put_reply.new.text.items b (c.loop-index.noworld || is_no_world answer)) (sym c.or_unknown-unknown.ensures) with_bytes in
-    let with_both = subst (λ b. AreSaid input c.args.rounds c.args.nodes (take i codes ++ code ∷ []) c.put_reply.new.text.items c.or_unknown-unknown.result b) (sym c.or_no_world-noworld.ensures) with_unknown in
-    subst (λ cs. AreSaid input c.args.rounds c.args.nodes cs c.put_reply.new.text.items c.or_unknown-unknown.result c.or_no_world-noworld.result) more with_both
+    let with_bytes = subst (λ bs. AreSaid input c.args.rounds c.args.nodes c.args.library (take i codes ++ code ∷ []) bs (c.loop-index.unknown || is_unknown answer) (c.loop-index.noworld || is_no_world answer)) (sym c.in_ok-put_reply.ensures) said in
+    let with_unknown = subst (λ b. AreSaid input c.args.rounds c.args.nodes c.args.library (take i codes ++ code ∷ []) c.put_reply.new.text.items b (c.loop-index.noworld || is_no_world answer)) (sym c.or_unknown-unknown.ensures) with_bytes in
+    let with_both = subst (λ b. AreSaid input c.args.rounds c.args.nodes c.args.library (take i codes ++ code ∷ []) c.put_reply.new.text.items c.or_unknown-unknown.result b) (sym c.or_no_world-noworld.ensures) with_unknown in
+    subst (λ cs. AreSaid input c.args.rounds c.args.nodes c.args.library cs c.put_reply.new.text.items c.or_unknown-unknown.result c.or_no_world-noworld.result) more with_both
 
 pub returns : goal.returns
 returns c =
     let input = input_view c.args.input.now in
     record {
-      said = subst (λ bs. AreSaid input c.args.rounds c.args.nodes c.args.codes.now bs c.loop-index.unknown c.loop-index.noworld) (sym c.from.ensures)
-          (subst (λ cs. AreSaid input c.args.rounds c.args.nodes cs c.loop-index.bytes.items c.loop-index.unknown c.loop-index.noworld)
+      said = subst (λ bs. AreSaid input c.args.rounds c.args.nodes c.args.library c.args.codes.now bs c.loop-index.unknown c.loop-index.noworld) (sym c.from.ensures)
+          (subst (λ cs. AreSaid input c.args.rounds c.args.nodes c.args.library cs c.loop-index.bytes.items c.loop-index.unknown c.loop-index.noworld)
           (take_all c.loop-index.index c.args.codes.now c.loop-index-test.false) c.loop-index.invariant);
     }

@@ -20,7 +20,6 @@ returns-in_err-checked-clause-refused c = λ place kind first.
 pub tell-requires : goal.tell-requires
 tell-requires c = record {
   input = c.in_ok-checked.ensures.well_formed.0;
-  rules = c.in_ok-rules.ensures.program;
   codes = subst (λ (cs : List Code). All (IsCodeOf (input_view c.in_ok-checked.checked.input)) cs) (sym c.as_slice-codes.ensures) c.in_ok-checked.ensures.well_formed.1;
   rounds = c.requires.rounds;
   nodes = c.requires.nodes.1;
@@ -32,7 +31,7 @@ returns-clause-told c =
     record {
       checked = checked_view c.in_ok-checked.checked;
       reads = c.in_ok-checked.ensures.codes;
-      said = subst (λ (cs : List Code). AreSaid (input_view c.in_ok-checked.checked.input) c.args.rounds c.args.nodes cs told.bytes told.unknown told.noworld) c.as_slice-codes.ensures c.in_ok-told.ensures.said;
+      said = subst (λ (cs : List Code). AreSaid (input_view c.in_ok-checked.checked.input) c.args.rounds c.args.nodes c.args.library cs told.bytes told.unknown told.noworld) c.as_slice-codes.ensures c.in_ok-told.ensures.said;
     }
 
 pub returns-clause-refused : goal.returns-clause-refused

@@ -3,13 +3,14 @@ use Rattle.std.specs.Prelude.{slice_get}
 use Rattle.std.proofs.lemmas.List.Elements.{All-contains}
 use Rattle.std.proofs.lemmas.Option.{same_Some}
 use Rattle.std.proofs.lemmas.Result.{IfOk-weaker}
+use Rattle.axiom_library.specs.declared.libraries.Library.{Library}
 use Rattle.goal_meaning.specs.Views.{GoalTree, InputTree, goal_view, input_view}
 use Rattle.goal_meaning.specs.WellFormed.{IsGoal, IsInput}
 use Rattle.saturation.specs.GoalTerms.{rules_of}
 use Rattle.code_check.specs.Codes.{FitsGoal}
 use Rattle.code_check.specs.Verified.{IsRightFor}
 use Rattle.code_check.proofs.Deciding.{inputs_low}
-use Rattle.code_check.proofs.Answering.{few_sets, for_the_code, for_the_goal, goal_among, goal_below, goal_low, goal_there, low_inputs, start_few, start_refused}
+use Rattle.code_check.proofs.Answering.{few_sets, for_libraries, for_the_code, for_the_goal, goal_among, goal_below, goal_low, goal_there, low_inputs, start_few, start_refused}
 use Rattle.code_check.proofs.verifying.verify_by_rules.Goals as goal
 use Rattle.code_check.proofs.verifying.verify_by_rules.Goals.{After-start}
 
@@ -61,12 +62,15 @@ returns-in-Err c =
     let tree = goal_view c.index-as_slice-at.result in
     let instrs = f.fits.instrs in
     record {
-      right = for_the_goal input code c.args.rounds c.args.nodes tree c.no_world_at_start.result f.there
-          (for_the_code input code c.args.rounds c.args.nodes tree instrs f.fits.is_code.decode c.no_world_at_start.result
-          (start_refused input code c.args.rounds c.args.nodes tree instrs f.fits.is_code.decode
-          (λ class a b fault hopeless. c.compared_graphs_decide.ensures.start input tree instrs c.args.rounds c.args.nodes class a b c.requires.input fault hopeless)
+      right = for_libraries c.no_world_at_start.result (λ library. c.args.rules.now ≡ rules_of library input)
+          (λ library answer. (other : GoalTree) → slice_get input.goals code.goal ≡ Some other → IsRightFor input other code c.args.rounds c.args.nodes library answer)
+          (λ library rules.
+          for_the_goal input code c.args.rounds c.args.nodes library tree c.no_world_at_start.result f.there
+          (for_the_code input code c.args.rounds c.args.nodes library tree instrs f.fits.is_code.decode c.no_world_at_start.result
+          (start_refused input code c.args.rounds c.args.nodes library tree instrs f.fits.is_code.decode
+          (λ class a b fault hopeless. c.compared_graphs_decide.ensures.start input tree instrs c.args.rounds c.args.nodes library class a b c.requires.input fault hopeless)
           c.in-Err.fault c.no_world_at_start.result c.in-Err.ensures.fault c.in-Err.ensures.hopeless c.in-Err.ensures.low
-          c.no_world_at_start.ensures));
+          c.no_world_at_start.ensures)));
     }
 
 pub verify_from-requires : goal.verify_from-requires
@@ -94,8 +98,11 @@ returns-in-Ok c =
     let code = c.args.code.now in
     let tree = goal_view c.index-as_slice-at.result in
     record {
-      right = for_the_goal input code c.args.rounds c.args.nodes tree c.verify_from.result f.there
+      right = for_libraries c.verify_from.result (λ library. c.args.rules.now ≡ rules_of library input)
+          (λ library answer. (other : GoalTree) → slice_get input.goals code.goal ≡ Some other → IsRightFor input other code c.args.rounds c.args.nodes library answer)
+          (λ library rules.
+          for_the_goal input code c.args.rounds c.args.nodes library tree c.verify_from.result f.there
           (IfOk-weaker c.verify_from.result (λ answer.
-          (of : InputTree) → IsInput of → c.args.rules.now.program ≡ rules_of of → IsGoal of.ops tree → IsRightFor of tree code c.args.rounds c.args.nodes answer) _
-          (λ answer h. h input c.requires.input c.requires.rules f.is_goal) c.verify_from.ensures.right);
+          (another : Library) (of : InputTree) → IsInput of → c.args.rules.now ≡ rules_of another of → IsGoal of.ops tree → IsRightFor of tree code c.args.rounds c.args.nodes another answer) _
+          (λ answer h. h library input c.requires.input rules f.is_goal) c.verify_from.ensures.right));
     }

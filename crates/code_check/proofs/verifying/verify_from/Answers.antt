@@ -55,13 +55,13 @@ returns-in-Err c =
     let g = c.insert_code.new.graph in
     let is = c.in_ok-inserted.ensures.inserted fits.instrs (subst (λ ws. map decoded ws ≡ map Some fits.instrs) (sym c.as_slice-words.ensures) fits.is_code.decode) in
     record {
-      right = for_inputs c.no_world_in_rounds.result IsInput (λ input. c.args.rules.now.program ≡ rules_of input) (λ input. IsGoal input.ops tree)
-          (λ input answer. IsRightFor input tree code c.args.rounds c.args.nodes answer)
-          (λ input is_input rules is_goal.
-          for_the_code input code c.args.rounds c.args.nodes tree fits.instrs fits.is_code.decode c.no_world_in_rounds.result
-          (rounds_refused input code c.args.rounds c.args.nodes tree fits.instrs fits.is_code.decode g
+      right = for_inputs c.no_world_in_rounds.result IsInput (λ library input. c.args.rules.now ≡ rules_of library input) (λ input. IsGoal input.ops tree)
+          (λ library input answer. IsRightFor input tree code c.args.rounds c.args.nodes library answer)
+          (λ library input is_input rules is_goal.
+          for_the_code input code c.args.rounds c.args.nodes library tree fits.instrs fits.is_code.decode c.no_world_in_rounds.result
+          (rounds_refused input code c.args.rounds c.args.nodes library tree fits.instrs fits.is_code.decode g
           (λ class a b impossible hopeless.
-          c.compared_graphs_decide.ensures.round input tree fits.instrs c.args.rounds c.args.nodes a b class c.args.first g is_input
+          c.compared_graphs_decide.ensures.round input tree fits.instrs c.args.rounds c.args.nodes library a b class c.args.first g is_input
           c.requires.graph c.requires.grown c.requires.stands fits.is_code.well_formed is.inserted impossible hopeless)
           c.in-Err.fault c.no_world_in_rounds.result
           (subst (λ rs. SaturateFaultIs rs g c.args.rounds c.args.nodes c.in-Err.fault) rules c.in-Err.ensures.fault)
@@ -95,11 +95,11 @@ let_classes-requires c =
     let tree = goal_view c.args.goal.now in
     let fits = c.requires.fits in
     let names : ℕ → List ℕ = λ n. [] in
-    let axioms = c.args.rules.now.program in
+    let added = c.args.rules.now in
     let is = c.in_ok-inserted.ensures.inserted fits.instrs (subst (λ ws. map decoded ws ≡ map Some fits.instrs) (sym c.as_slice-words.ensures) fits.is_code.decode) in
-    let stands = c.more_terms_may_be_inserted.ensures.stand names axioms (assumed_pairs tree) (kept_terms tree) (written_terms fits.instrs)
+    let stands = c.more_terms_may_be_inserted.ensures.stand names added (assumed_pairs tree) (kept_terms tree) (written_terms fits.instrs)
     c.args.first c.insert_code.new.graph c.requires.graph (c.written_terms_are_sorted.ensures.sorted fits.instrs fits.is_code.well_formed) is.inserted
-    (c.requires.stands names axioms) in
+    (c.requires.stands names added) in
     let keeps = c.in-Ok.ensures.stands names (assumed_pairs tree) (kept_terms tree ++ written_terms fits.instrs) stands in
     record {
       graph = c.in-Ok.ensures.saturated.graph;
@@ -157,18 +157,17 @@ returns c =
     let found = subst (λ ps. MatchOption c.in_ok-different.different (Same sat.graph (expanded tree) instrs ps) (IsFirstDifferent sat.graph (expanded tree) instrs ps)) c.as_slice-places.ensures
     (c.in_ok-different.ensures instrs decode (c.find_branch-branch.ensures.of_code instrs decode) fits.is_code.one_branch addresses present.0 present.1) in
     record {
-      right = λ input is_input rules is_goal.
-          let axioms = rules_of input in
+      right = λ library input is_input rules is_goal.
           let saturated = subst (λ rs. IsSaturated rs g c.args.rounds c.args.nodes sat.graph sat.rounds sat.stop) rules c.in-Ok.ensures.saturated in
           let keeps = subst (λ rs. KeepsStanding rs g sat.graph) rules c.in-Ok.ensures.stands in
-          let compared = c.compared_graphs_decide.ensures.compared input tree instrs c.args.rounds c.args.nodes sat.rounds sat.stop c.args.first g sat.graph
+          let compared = c.compared_graphs_decide.ensures.compared input tree instrs c.args.rounds c.args.nodes library sat.rounds sat.stop c.args.first g sat.graph
           c.requires.graph c.requires.grown is.inserted saturated c.in-Ok.ensures.rounds in
-          let stand = c.compared_graphs_decide.ensures.stand input tree instrs c.args.first g sat.graph c.requires.graph c.requires.stands
+          let stand = c.compared_graphs_decide.ensures.stand input tree instrs library c.args.first g sat.graph c.requires.graph c.requires.stands
           fits.is_code.well_formed is.inserted keeps in
-          for_the_code input code c.args.rounds c.args.nodes tree instrs fits.is_code.decode {E = ℕ} (Ok c.verified.result)
-          (answered input code c.args.rounds c.args.nodes tree instrs fits.is_code.decode sat.graph sat.rounds sat.stop compared
+          for_the_code input code c.args.rounds c.args.nodes library tree instrs fits.is_code.decode {E = ℕ} (Ok c.verified.result)
+          (answered input code c.args.rounds c.args.nodes library tree instrs fits.is_code.decode sat.graph sat.rounds sat.stop compared
           (λ same.
-          c.same_code_does_the_goal.ensures.does_goal input tree code.words instrs code.places (kept_terms tree ++ written_terms instrs) sat.graph
+          c.same_code_does_the_goal.ensures.does_goal input tree code.words instrs code.places (kept_terms tree ++ written_terms instrs) sat.graph library
           is_input is_goal fits.is_code (few_code code.words fits.few) fits.places.low stand same)
           c.in_ok-different.different c.verified.result found c.verified.ensures);
     }

@@ -11,7 +11,7 @@ returns c =
           clauses_for = ends.clauses_for;
           formulas = ends.formulas;
           holds = c.count_of.ensures ends.clauses_for c.in_ok-graph.graph c.args.table.now
-              (record { rounds = 0; nodes = 1; cycles = c.args.cycles; conflicts = c.args.conflicts; pick = First })
+              (record { rounds = 0; nodes = 1; cycles = c.args.cycles; conflicts = c.args.conflicts; pick = First; library = c.none.result })
               ends.holds;
         };
       };

@@ -42,9 +42,9 @@ returns-clause-answered c =
     subst (λ (t : Table). AllZip (IsTailOf t settings.conflicts) results said) (ap (λ (i : InputTree). i.table) same)
     c.in_ok-solved.ensures.said in
     let bytes : c.in_ok-report_least.field-0.bytes.items
-    ≡ answer_text Pinned (input_of_lifts lifts) results ++ lines_text (tail_lines said) =
+    ≡ answer_text Pinned c.args.settings.now.library (input_of_lifts lifts) results ++ lines_text (tail_lines said) =
     c.in_ok-report_least.ensures.bytes
-    ∙ (λ j. answer_text Pinned (same j) (c.deref.ensures.value j) ++ lines_text (tail_lines (c.deref-2.ensures.value j))) in
+    ∙ (λ j. answer_text Pinned c.args.settings.now.library (same j) (c.deref.ensures.value j) ++ lines_text (tail_lines (c.deref-2.ensures.value j))) in
     record {
       lifts = lifts;
       reads = c.in_ok-lifts.ensures.lifts;
@@ -55,7 +55,7 @@ returns-clause-answered c =
       said = said;
       each = each;
       bytes_are = bytes;
-      read_back = subst (λ (bs : List _). ReadsTailed bs (answer_to Pinned (input_of_lifts lifts) results) said) (sym bytes)
+      read_back = subst (λ (bs : List _). ReadsTailed bs (answer_to Pinned c.args.settings.now.library (input_of_lifts lifts) results) said) (sym bytes)
           (c.tailed_answers_are_read.ensures settings (input_of_lifts lifts) results said is c.requires.settings starts right each);
       status_is = c.in_ok-report_least.ensures.status
           ∙ (λ j. least_status (c.deref.ensures.value j) (c.deref-2.ensures.value j));

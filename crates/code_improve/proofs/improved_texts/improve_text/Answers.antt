@@ -33,8 +33,8 @@ returns-clause-answered c =
     starts_within (input_of_lifts lifts) is (well.few lifts c.in_ok-lifts.ensures.well_formed) in
     let right : AreRightResults Pinned (input_of_lifts lifts) settings results =
     subst (λ (i : InputTree). AreRightResults Pinned i settings results) same c.in_ok-results.ensures.right in
-    let bytes : c.in_ok-answer_text.field-0.bytes.items ≡ answer_text Pinned (input_of_lifts lifts) results =
-    c.in_ok-answer_text.ensures.bytes ∙ (λ j. answer_text Pinned (same j) (c.deref.ensures.value j)) in
+    let bytes : c.in_ok-answer_text.field-0.bytes.items ≡ answer_text Pinned c.args.settings.now.library (input_of_lifts lifts) results =
+    c.in_ok-answer_text.ensures.bytes ∙ (λ j. answer_text Pinned c.args.settings.now.library (same j) (c.deref.ensures.value j)) in
     record {
       lifts = lifts;
       reads = c.in_ok-lifts.ensures.lifts;
@@ -43,7 +43,7 @@ returns-clause-answered c =
       same = all_same settings lifts (λ lift f is_lift one. c.improved_code_is_the_same.ensures settings lifts lift f is_lift one)
           lifts.lifts results c.in_ok-lifts.ensures.well_formed.each right;
       bytes_are = bytes;
-      read_back = subst (λ (bs : List _). ReadsAnswer bs (answer_to Pinned (input_of_lifts lifts) results)) (sym bytes)
+      read_back = subst (λ (bs : List _). ReadsAnswer bs (answer_to Pinned c.args.settings.now.library (input_of_lifts lifts) results)) (sym bytes)
           (c.right_answers_are_read.ensures settings (input_of_lifts lifts) results is c.requires.settings starts right);
       status_is = c.in_ok-answer_text.ensures.status ∙ ap greatest_status c.deref.ensures.value;
     }

@@ -20,6 +20,10 @@ pub returns-in_err-pick-clause-value : goal.returns-in_err-pick-clause-value
 returns-in_err-pick-clause-value c =
     rw (c.from_residual-in_err-pick.ensures, ← c.in_ok-rounds.ensures.value, ← c.in_ok-nodes.ensures.value, ← c.in_ok-cycles.ensures.value, ← c.in_ok-conflicts.ensures.value, ← c.in_err-pick.ensures) refl
 
+pub returns-in_err-library-clause-value : goal.returns-in_err-library-clause-value
+returns-in_err-library-clause-value c =
+    rw (c.from_residual-in_err-library.ensures, ← c.in_ok-rounds.ensures.value, ← c.in_ok-nodes.ensures.value, ← c.in_ok-cycles.ensures.value, ← c.in_ok-conflicts.ensures.value, ← c.in_ok-pick.ensures, ← c.in_err-library.ensures) refl
+
 pub returns-clause-value : goal.returns-clause-value
 returns-clause-value c =
-    rw (← c.in_ok-rounds.ensures.value, ← c.in_ok-nodes.ensures.value, ← c.in_ok-cycles.ensures.value, ← c.in_ok-conflicts.ensures.value, ← c.in_ok-pick.ensures, ← c.has_least-least.ensures) refl
+    rw (← c.in_ok-rounds.ensures.value, ← c.in_ok-nodes.ensures.value, ← c.in_ok-cycles.ensures.value, ← c.in_ok-conflicts.ensures.value, ← c.in_ok-pick.ensures, ← c.in_ok-library.ensures, ← c.has_least-least.ensures) refl

@@ -3,6 +3,7 @@ use Rattle.std.proofs.Common.{◌≡◌, [], ◌∷◌, Some, codes, refl}
 use Rattle.std.specs.Fmt.{digits}
 use Rattle.clap.proofs.OnLiterals.{clap_on_literals}
 use Rattle.denali_run.specs.declared.settings.Pick.TheVariants.{Last, Busy}
+use Rattle.axiom_library.specs.Libraries.{no_library}
 use Rattle.denali_cli.specs.Commands.{Solve, SolveLeast, Proc, Check, CheckLeast, Trim, Verify, Run, Gen, Cnf}
 use Rattle.denali_cli.specs.OptionValues.{no_options, settings_of}
 use Rattle.denali_cli.specs.Said.{command_of}
@@ -10,27 +11,27 @@ use Rattle.denali_cli.specs.Spellings.{matched, spelled_command}
 use Rattle.denali_cli.proofs.worked.worked_words.Goals as goal
 
 joined : command_of (codes "solve" ∷ codes "--rounds=3" ∷ codes "--pick=first" ∷ [])
-    ≡ Some (Solve (settings_of (record no_options { rounds = Some 3 })))
+    ≡ Some (Solve (settings_of no_library (record no_options { rounds = Some 3 })))
 unfolding clap_on_literals matched digits
 joined = refl
 
 picks_last : command_of (codes "solve" ∷ codes "--pick" ∷ codes "last" ∷ [])
-    ≡ Some (Solve (settings_of (record no_options { pick = Some Last })))
+    ≡ Some (Solve (settings_of no_library (record no_options { pick = Some Last })))
 unfolding clap_on_literals matched digits
 picks_last = refl
 
 picks_busiest : command_of (codes "solve" ∷ codes "--pick=busy" ∷ [])
-    ≡ Some (Solve (settings_of (record no_options { pick = Some Busy })))
+    ≡ Some (Solve (settings_of no_library (record no_options { pick = Some Busy })))
 unfolding clap_on_literals matched digits
 picks_busiest = refl
 
 mixed : command_of (codes "solve" ∷ codes "--cycles=0" ∷ codes "--nodes" ∷ codes "7" ∷ [])
-    ≡ Some (Solve (settings_of (record no_options { nodes = Some 7; cycles = Some 0 })))
+    ≡ Some (Solve (settings_of no_library (record no_options { nodes = Some 7; cycles = Some 0 })))
 unfolding clap_on_literals matched digits
 mixed = refl
 
 dashes : command_of (codes "solve" ∷ codes "--conflicts" ∷ codes "5" ∷ codes "--" ∷ [])
-    ≡ Some (Solve (settings_of (record no_options { conflicts = Some 5 })))
+    ≡ Some (Solve (settings_of no_library (record no_options { conflicts = Some 5 })))
 unfolding clap_on_literals matched digits
 dashes = refl
 
@@ -44,12 +45,12 @@ unfolding clap_on_literals matched digits
 bare = refl
 
 links : command_of (codes "proc" ∷ codes "--cycles" ∷ codes "9" ∷ [])
-    ≡ Some (Proc (settings_of (record no_options { cycles = Some 9 })))
+    ≡ Some (Proc (settings_of no_library (record no_options { cycles = Some 9 })))
 unfolding clap_on_literals matched digits
 links = refl
 
 joined_cycles : command_of (codes "proc" ∷ codes "--cycles=9" ∷ [])
-    ≡ Some (Proc (settings_of (record no_options { cycles = Some 9 })))
+    ≡ Some (Proc (settings_of no_library (record no_options { cycles = Some 9 })))
 unfolding clap_on_literals matched digits
 joined_cycles = refl
 
@@ -61,17 +62,17 @@ checks_least : command_of (codes "check" ∷ codes "--least" ∷ []) ≡ Some Ch
 unfolding clap_on_literals matched digits
 checks_least = refl
 
-solves_least : command_of (codes "solve" ∷ codes "--least" ∷ []) ≡ Some (SolveLeast (settings_of no_options))
+solves_least : command_of (codes "solve" ∷ codes "--least" ∷ []) ≡ Some (SolveLeast (settings_of no_library no_options))
 unfolding clap_on_literals matched digits
 solves_least = refl
 
 flag_among_pairs : command_of (codes "solve" ∷ codes "--nodes" ∷ codes "7" ∷ codes "--least" ∷ codes "--rounds" ∷ codes "3" ∷ [])
-    ≡ Some (SolveLeast (settings_of (record no_options { rounds = Some 3; nodes = Some 7 })))
+    ≡ Some (SolveLeast (settings_of no_library (record no_options { rounds = Some 3; nodes = Some 7 })))
 unfolding clap_on_literals matched digits
 flag_among_pairs = refl
 
 flag_in_another_spelling : command_of (codes "solve" ∷ codes "--least" ∷ codes "--rounds=3" ∷ [])
-    ≡ Some (SolveLeast (settings_of (record no_options { rounds = Some 3 })))
+    ≡ Some (SolveLeast (settings_of no_library (record no_options { rounds = Some 3 })))
 unfolding clap_on_literals matched digits
 flag_in_another_spelling = refl
 
@@ -84,16 +85,16 @@ trims : command_of (codes "trim" ∷ []) ≡ Some Trim
 unfolding clap_on_literals matched digits
 trims = refl
 
-verifies : command_of (codes "verify" ∷ []) ≡ Some (Verify 4 512)
+verifies : command_of (codes "verify" ∷ []) ≡ Some (Verify 4 512 no_library)
 unfolding clap_on_literals matched digits
 verifies = refl
 
-joined_rounds : command_of (codes "verify" ∷ codes "--rounds=3" ∷ []) ≡ Some (Verify 3 512)
+joined_rounds : command_of (codes "verify" ∷ codes "--rounds=3" ∷ []) ≡ Some (Verify 3 512 no_library)
 unfolding clap_on_literals matched digits
 joined_rounds = refl
 
 rounds_and_rows : command_of (codes "verify" ∷ codes "--nodes" ∷ codes "7" ∷ codes "--rounds" ∷ codes "0" ∷ [])
-    ≡ Some (Verify 0 7)
+    ≡ Some (Verify 0 7 no_library)
 unfolding clap_on_literals matched digits
 rounds_and_rows = refl
 

@@ -10,5 +10,5 @@ use Rattle.denali_run.proofs.claiming.print.Given as goal
 abbrev pub invariant-loop-at : goal.invariant-loop-at
 invariant-loop-at l =
     l.text.items
-    ≡ lines_text (head_lines 2 3 l.input.table l.input.builtin)
+    ≡ lines_text (head_lines 2 3 l.input.table l.input.builtin l.fn.library)
     ++ lines_text (flat_map (goal_lines l.input.table) (goals_claimed (map goal_view l.input.goals) (take l.at l.results)))

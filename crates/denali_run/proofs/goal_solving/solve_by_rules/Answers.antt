@@ -1,6 +1,6 @@
 use Rattle.std.proofs.Common.{refl, subst, List, Contains, length, map}
 use Rattle.std.proofs.lemmas.List.Elements.{All-contains}
-use Rattle.axiom_base.specs.Rewrites.{Rewrite}
+use Rattle.axiom_base.specs.Schemes.{AddedRules}
 use Rattle.goal_meaning.specs.Names.{declared_name}
 use Rattle.goal_meaning.specs.Views.{goal_view, input_view}
 use Rattle.goal_meaning.specs.WellFormed.{IsGoal}
@@ -31,8 +31,8 @@ returns-in-Err g c =
     let input = input_view c.args.input.now in
     let goals = c.args.input.now.goals in
     let goal = c.index-as_slice-at.result in
-    let rules_true : RulesAreTrue (input_view c.args.input.now) (goal_view c.index-as_slice-at.result) =
-    λ world is holds. c.axioms_make_rules_true.ensures.true_rules input (goal_view goal) world c.requires.input holds in
+    let rules_true : RulesAreTrue c.args.settings.now.library (input_view c.args.input.now) (goal_view c.index-as_slice-at.result) =
+    λ world is holds. c.axioms_make_rules_true.ensures.true_rules c.args.settings.now.library input (goal_view goal) world c.requires.input holds in
     record {
       right = for_the_goal input c.args.settings.now c.args.at (goal_view goal)
           (there goals c.as_slice.result.now c.args.at goal c.as_slice.ensures c.requires.at c.index-as_slice-at.is)
@@ -47,16 +47,16 @@ returns-in-Err-saturate g c =
     let goals = c.args.input.now.goals in
     let goal = c.index-as_slice-at.result in
     let s = c.args.settings.now in
-    let rules_true : RulesAreTrue (input_view c.args.input.now) (goal_view c.index-as_slice-at.result) =
-    λ world is holds. c.axioms_make_rules_true.ensures.true_rules input (goal_view goal) world c.requires.input holds in
-    let at_rules : (F : List Rewrite → Type 0) → F c.args.rules.now.program
-    → F (rules_of (input_view c.args.input.now)) = λ F h. subst F c.requires.rules h in
+    let rules_true : RulesAreTrue c.args.settings.now.library (input_view c.args.input.now) (goal_view c.index-as_slice-at.result) =
+    λ world is holds. c.axioms_make_rules_true.ensures.true_rules c.args.settings.now.library input (goal_view goal) world c.requires.input holds in
+    let at_rules : (F : AddedRules → Type 0) → F c.args.rules.now
+    → F (rules_of c.args.settings.now.library (input_view c.args.input.now)) = λ F h. subst F c.requires.rules h in
     record {
       right = for_the_goal input s c.args.at (goal_view goal)
           (there goals c.as_slice.result.now c.args.at goal c.as_slice.ensures c.requires.at c.index-as_slice-at.is)
           c.no_world_in_rounds.result
-          (rounds_refused input (goal_view goal) s rules_true c.in-Ok.graph (c.in-Ok.ensures.grown (rules_of input))
-          (c.in-Ok.ensures.stands (declared_name c.args.input.now.ops) (rules_of input)) c.in-Err-saturate.fault
+          (rounds_refused input (goal_view goal) s rules_true c.in-Ok.graph (c.in-Ok.ensures.grown (rules_of s.library input))
+          (c.in-Ok.ensures.stands (declared_name c.args.input.now.ops) (rules_of s.library input)) c.in-Err-saturate.fault
           c.no_world_in_rounds.result
           (at_rules (λ rs. SaturateFaultIs rs c.in-Ok.graph s.rounds s.nodes c.in-Err-saturate.fault)
           c.in-Err-saturate.ensures.fault)
@@ -75,14 +75,14 @@ to_launch-requires g c =
     record {
       input = c.requires.input;
       goal = one;
-      can = c.grown_graphs_can_be_launched.ensures.can input (goal_view goal) c.in-Ok-saturate.saturated.graph
+      can = c.grown_graphs_can_be_launched.ensures.can s.library input (goal_view goal) c.in-Ok-saturate.saturated.graph
           c.in-Ok-saturate.saturated.rounds c.requires.input one c.in-Ok-saturate.ensures.saturated.graph
           (few_rows _ _ _ s.nodes c.in-Ok.ensures.few c.in-Ok.ensures.graph.few_rows c.requires.settings.nodes.1
           c.in-Ok-saturate.ensures.few)
-          (grown_after input (goal_view goal) c.args.rules.now.program c.in-Ok.graph
+          (grown_after s.library input (goal_view goal) c.args.rules.now c.in-Ok.graph
           c.in-Ok-saturate.saturated.graph s.rounds s.nodes c.in-Ok-saturate.saturated.rounds
           c.in-Ok-saturate.saturated.stop c.requires.rules c.in-Ok-saturate.ensures.saturated
-          (c.in-Ok.ensures.grown (rules_of input)));
+          (c.in-Ok.ensures.grown (rules_of s.library input)));
     }
 
 pub returns : goal.returns
@@ -92,42 +92,42 @@ returns g c =
     let goal = c.index-as_slice-at.result in
     let s = c.args.settings.now in
     let sat = c.in-Ok-saturate.saturated in
-    let rules_true : RulesAreTrue (input_view c.args.input.now) (goal_view c.index-as_slice-at.result) =
-    λ world is holds. c.axioms_make_rules_true.ensures.true_rules input (goal_view goal) world c.requires.input holds in
-    let at_rules : (F : List Rewrite → Type 0) → F c.args.rules.now.program
-    → F (rules_of (input_view c.args.input.now)) = λ F h. subst F c.requires.rules h in
-    let stands_after : GraphStands (declared_name c.args.input.now.ops) (rules_of (input_view c.args.input.now))
+    let rules_true : RulesAreTrue c.args.settings.now.library (input_view c.args.input.now) (goal_view c.index-as_slice-at.result) =
+    λ world is holds. c.axioms_make_rules_true.ensures.true_rules c.args.settings.now.library input (goal_view goal) world c.requires.input holds in
+    let at_rules : (F : AddedRules → Type 0) → F c.args.rules.now
+    → F (rules_of c.args.settings.now.library (input_view c.args.input.now)) = λ F h. subst F c.requires.rules h in
+    let stands_after : GraphStands (declared_name c.args.input.now.ops) (rules_of c.args.settings.now.library (input_view c.args.input.now))
     (assumed_pairs (goal_view c.index-as_slice-at.result)) (kept_terms (goal_view c.index-as_slice-at.result))
     c.in-Ok-saturate.saturated.graph =
     at_rules (λ rs. KeepsStanding rs c.in-Ok.graph c.in-Ok-saturate.saturated.graph) c.in-Ok-saturate.ensures.stands
     (declared_name c.args.input.now.ops) (assumed_pairs (goal_view goal)) (kept_terms (goal_view goal))
-    (c.in-Ok.ensures.stands (declared_name c.args.input.now.ops) (rules_of input)) in
-    let saturated : IsSaturated (rules_of (input_view c.args.input.now)) c.in-Ok.graph c.args.settings.now.rounds
+    (c.in-Ok.ensures.stands (declared_name c.args.input.now.ops) (rules_of s.library input)) in
+    let saturated : IsSaturated (rules_of c.args.settings.now.library (input_view c.args.input.now)) c.in-Ok.graph c.args.settings.now.rounds
     c.args.settings.now.nodes c.in-Ok-saturate.saturated.graph c.in-Ok-saturate.saturated.rounds
     c.in-Ok-saturate.saturated.stop =
     at_rules (λ rs. IsSaturated rs c.in-Ok.graph s.rounds s.nodes sat.graph sat.rounds sat.stop)
     c.in-Ok-saturate.ensures.saturated in
     let m : Matched = record { graph = c.in_ok-graph.graph; rounds = sat.rounds; stop = sat.stop } in
     let stands_for : StandsFor (input_view c.args.input.now) (goal_view c.index-as_slice-at.result) c.in_ok-graph.graph =
-    c.launched_graphs_stand.ensures.stand input (goal_view goal) sat.graph c.in_ok-graph.graph c.requires.input
+    c.launched_graphs_stand.ensures.stand s.library input (goal_view goal) sat.graph c.in_ok-graph.graph c.requires.input
     c.in_ok-graph.ensures.launched stands_after in
     record {
       right = for_the_goal input s c.args.at (goal_view goal)
           (there goals c.as_slice.result.now c.args.at goal c.as_slice.ensures c.requires.at c.index-as_slice-at.is)
           c.search.result
           (found_of s c.args.input.now.table m c.search.result c.search.ensures input (goal_view goal) refl
-          (matched_is input (goal_view goal) s rules_true c.in-Ok.graph (c.in-Ok.ensures.grown (rules_of input))
-          (c.in-Ok.ensures.stands (declared_name c.args.input.now.ops) (rules_of input)) sat.graph m saturated
+          (matched_is input (goal_view goal) s rules_true c.in-Ok.graph (c.in-Ok.ensures.grown (rules_of s.library input))
+          (c.in-Ok.ensures.stands (declared_name c.args.input.now.ops) (rules_of s.library input)) sat.graph m saturated
           c.in-Ok-saturate.ensures.rounds c.in_ok-graph.ensures.launched.well_formed
           stands_for
           (launched_few (length c.in-Ok.graph.rows) (most_rows_at_start (goal_view goal)) s.nodes sat.graph.rows
           c.in_ok-graph.graph.rows (row_in c.args.input.now.ops c.in_ok-graph.ensures.launched.class_in)
           c.in_ok-graph.ensures.launched.rows c.in-Ok.ensures.few_rows c.in-Ok-saturate.ensures.few)
-          (λ h. c.in_ok-graph.ensures.grown (rules_of input) (present_terms (goal_view goal)) (assumed_pairs (goal_view goal))
+          (λ h. c.in_ok-graph.ensures.grown (rules_of s.library input) (present_terms (goal_view goal)) (assumed_pairs (goal_view goal))
           sat.rounds h)
-          (λ h. c.in_ok-graph.ensures.stops (rules_of input) s.rounds s.nodes sat.rounds sat.stop
-          (c.axioms_make_rules_true.ensures.are_rules input c.requires.input) h)
-          (λ i a b grown le clash. c.grown_graphs_are_one.ensures.no_clash (rules_of input)
+          (λ h. c.in_ok-graph.ensures.stops (rules_of s.library input) s.rounds s.nodes sat.rounds sat.stop
+          (c.axioms_make_rules_true.ensures.are_rules s.library input c.requires.input) h)
+          (λ i a b grown le clash. c.grown_graphs_are_one.ensures.no_clash (rules_of s.library input)
           (present_terms (goal_view goal)) (assumed_pairs (goal_view goal)) sat.graph sat.rounds i a b saturated.graph grown
           le clash)));
     }

@@ -27,9 +27,9 @@ returns-clause-answered c =
     let is : IsInput (input_view c.in_ok-input.input) =
     c.read_inputs_are_well_formed.ensures text input c.requires.few c.in_ok-input.ensures.input in
     let bytes : c.in_ok-answer_text.field-0.bytes.items
-    ≡ answer_text Pinned (input_view c.in_ok-input.input) c.in_ok-results.results.items =
+    ≡ answer_text Pinned c.args.settings.now.library (input_view c.in_ok-input.input) c.in_ok-results.results.items =
     c.in_ok-answer_text.ensures.bytes
-    ∙ ap (answer_text Pinned (input_view c.in_ok-input.input)) c.deref.ensures.value in
+    ∙ ap (answer_text Pinned c.args.settings.now.library (input_view c.in_ok-input.input)) c.deref.ensures.value in
     record {
       input = input;
       reads = c.in_ok-input.ensures.input;
@@ -37,7 +37,7 @@ returns-clause-answered c =
       right = c.in_ok-results.ensures.right;
       bytes_are = bytes;
       read_back = λ short.
-          subst (λ bytes. ReadsAnswer bytes (answer_to Pinned input results)) (sym bytes)
+          subst (λ bytes. ReadsAnswer bytes (answer_to Pinned c.args.settings.now.library input results)) (sym bytes)
           (c.right_answers_are_read.ensures c.args.settings.now input results is c.requires.settings
           (starts_small text input is (c.read_inputs_have_few_operators.ensures text input c.in_ok-input.ensures.input) short)
           c.in_ok-results.ensures.right);

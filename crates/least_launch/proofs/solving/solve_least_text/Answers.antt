@@ -31,13 +31,13 @@ returns-clause-answered c =
     let is : IsInput (input_view c.in_ok-input.input) =
     c.read_inputs_are_well_formed.ensures text input c.requires.few c.in_ok-input.ensures.input in
     let bytes : c.in_ok-report_least.field-0.bytes.items
-    ≡ answer_text Pinned (input_view c.in_ok-input.input) c.in_ok-solved.solved.results.items
+    ≡ answer_text Pinned c.args.settings.now.library (input_view c.in_ok-input.input) c.in_ok-solved.solved.results.items
     ++ lines_text (tail_lines c.in_ok-solved.solved.said.items) =
     c.in_ok-report_least.ensures.bytes
-    ∙ ap (λ (rs : List Answered). answer_text Pinned (input_view c.in_ok-input.input) rs ++ lines_text
+    ∙ ap (λ (rs : List Answered). answer_text Pinned c.args.settings.now.library (input_view c.in_ok-input.input) rs ++ lines_text
     (tail_lines c.deref-2.result.now))
     c.deref.ensures.value
-    ∙ ap (λ (ts : List (Option Tail)). answer_text Pinned (input_view c.in_ok-input.input) c.in_ok-solved.solved.results.items
+    ∙ ap (λ (ts : List (Option Tail)). answer_text Pinned c.args.settings.now.library (input_view c.in_ok-input.input) c.in_ok-solved.solved.results.items
     ++ lines_text (tail_lines ts)) c.deref-2.ensures.value in
     record {
       input = input;
@@ -48,7 +48,7 @@ returns-clause-answered c =
       each = c.in_ok-solved.ensures.said;
       bytes_are = bytes;
       read_back = λ short.
-          subst (λ (bs : List ℕ). ReadsTailed bs (answer_to Pinned input results) said) (sym bytes)
+          subst (λ (bs : List ℕ). ReadsTailed bs (answer_to Pinned c.args.settings.now.library input results) said) (sym bytes)
           (c.tailed_answers_are_read.ensures c.args.settings.now input results said is c.requires.settings
           (starts_small text input is (c.read_inputs_have_few_operators.ensures text input c.in_ok-input.ensures.input) short)
           c.in_ok-solved.ensures.right c.in_ok-solved.ensures.said);

@@ -1,7 +1,8 @@
 use Rattle.std.specs.Prelude.{is_some, true, false, MatchOption}
-use Rattle.std.proofs.Common.{rules, ◌≡◌, ◌+◌, ℕ, [], map, take, sym, ap, subst}
+use Rattle.std.proofs.Common.{rules, ◌≡◌, ◌+◌, [], map, take, sym, ap, subst}
 use Rattle.axiom_base.specs.Schemes.{computed}
 use Rattle.axiom_base.specs.Computed.{calc_left}
+use Rattle.axiom_base.specs.declared.kinds.Given.{Given}
 use Rattle.pattern_match.specs.Bindings.{IsSubstitution, AreMatches}
 use Rattle.pattern_match.specs.Found.{classes_in}
 use Rattle.pattern_match.specs.Listing.{Lists, Chosen, nothing}
@@ -38,16 +39,16 @@ loop-one-preserved c =
     let i = c.loop-one.one-index in
     let m = c.one-item.result in
     let given = c.in_ok-given.given in
-    let exact = subst (λ cs. MatchOption given ((e : ℕ) → ¬ AreGiven g kind cs e) (AreGiven g kind cs)) c.as_slice.ensures c.in_ok-given.ensures in
+    let exact = subst (λ cs. MatchOption given ((given : Given) → ¬ AreGiven g kind cs given) (AreGiven g kind cs)) c.as_slice.ensures c.in_ok-given.ensures in
     elim c.if-is_some.branch [
       | then-is_some+in_ok-with+in_ok-push w ↦
           (let there : is_some given ≡ true = search rules in
-          let e = some_if ((e : ℕ) → ¬ AreGiven g kind m.classes e) (AreGiven g kind m.classes) given exact there in
-          let after = loop_takes items i m c.loop-one-test.true c.one-item.is D c.loop-one.found.items c.loop-one.invariant _ w.in_ok-with.field-0 w.in_ok-push.ensures.items (ap classes_in w.in_ok-with.ensures) (e.0, e.2) in
+          let one = some_if ((given : Given) → ¬ AreGiven g kind m.classes given) (AreGiven g kind m.classes) given exact there in
+          let after = loop_takes items i m c.loop-one-test.true c.one-item.is D c.loop-one.found.items c.loop-one.invariant _ w.in_ok-with.field-0 w.in_ok-push.ensures.items (ap classes_in w.in_ok-with.ensures) (one.0, one.2) in
           subst (λ f. Chosen (AsItself D D) (map classes_in (take (i + 1) items)) (map classes_in f.items)) (sym w.found-is) after)
       | else-is_some w ↦
           (let there : is_some given ≡ false = search rules in
-          let none = none_if ((e : ℕ) → ¬ AreGiven g kind m.classes e) (AreGiven g kind m.classes) given exact there in
+          let none = none_if ((given : Given) → ¬ AreGiven g kind m.classes given) (AreGiven g kind m.classes) given exact there in
           let same = loop_skips items i m c.loop-one-test.true c.one-item.is D c.loop-one.found.items c.loop-one.invariant (λ q. none q.0 q.1) in
           subst (λ f. Chosen (AsItself D D) (map classes_in (take (i + 1) items)) (map classes_in f.items)) (sym w.found-is) same)
     ]

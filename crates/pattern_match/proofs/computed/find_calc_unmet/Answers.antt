@@ -1,7 +1,8 @@
 use Rattle.std.specs.Prelude.{is_some, true, false}
-use Rattle.std.proofs.Common.{rules, ◌≡◌, ◌+◌, ℕ, All, [], map, take, sym, ap, ◌∙◌, subst, arith}
+use Rattle.std.proofs.Common.{rules, ◌≡◌, ◌+◌, All, [], map, take, sym, ap, ◌∙◌, subst, arith}
 use Rattle.axiom_base.specs.Schemes.{computed}
 use Rattle.axiom_base.specs.Computed.{calc_left}
+use Rattle.axiom_base.specs.declared.kinds.Given.{Given}
 use Rattle.pattern_match.specs.Bindings.{IsSubstitution, AreMatches, AreUnmet, IsUnmetGiven}
 use Rattle.pattern_match.specs.Classes.{IsClass}
 use Rattle.pattern_match.specs.Found.{classes_in}
@@ -25,12 +26,12 @@ loop-one-init c =
       each = subst (All (IsUnmetCalc c.args.graph.now c.args.kind)) (sym c.new-found.ensures.items) (λ k d l. absurd (omega (arith, l)));
     }
 
-pub unmet_constant-requires : goal.unmet_constant-requires
-unmet_constant-requires c =
+pub unmet_given-requires : goal.unmet_given-requires
+unmet_given-requires c =
     let g = c.args.graph.now in
     let kind = c.args.kind in
     let law = c.computed_rules_are_true.ensures in
-    let m = matches_of (goal.at.unmet_constant-requires c).After-deref-one-items in
+    let m = matches_of (goal.at.unmet_given-requires c).After-deref-one-items in
     let matched = classes_at c.deref-one-items.result.now c.loop-one.one-index c.one-item.result c.loop-one-test.true c.one-item.is (IsSubstitution g (calc_left kind) (variables_of kind)) m.lists.each in
     record { can = can_give law.usable law.last g c.requires.graph kind c.one-item.result.classes matched }
 
@@ -53,19 +54,19 @@ loop-one-preserved c =
     elim c.if-is_some.branch [
       | then-is_some+in_ok-with+in_ok-push w ↦
           (let there : is_some given ≡ true = search rules in
-          let e = some_if ((e : ℕ) → ¬ IsUnmetGiven g kind m e) (IsUnmetGiven g kind m) given exact there in
+          let one = some_if ((given : Given) → ¬ IsUnmetGiven g kind m given) (IsUnmetGiven g kind m) given exact there in
           let x = w.in_ok-with.field-0 in
           let same = w.in_ok-with.ensures in
-          let after = loop_takes items i m c.loop-one-test.true c.one-item.is D c.loop-one.found.items c.loop-one.invariant.chosen _ x w.in_ok-push.ensures.items (ap classes_in same) (unmet_if g is kind m left e.0 e.2) in
-          let one = unmet_calc g is kind m left law.usable law.last numbers matched e.0 e.2 x (same ∙ ap (λ o. record { classes = m.classes; class = m.class; given = o }) e.1) in
-          let each = each_more (IsUnmetCalc g kind) c.loop-one.found.items _ x c.loop-one.invariant.each w.in_ok-push.ensures.items one in
+          let after = loop_takes items i m c.loop-one-test.true c.one-item.is D c.loop-one.found.items c.loop-one.invariant.chosen _ x w.in_ok-push.ensures.items (ap classes_in same) (unmet_if g is kind m left one.0 one.2) in
+          let unmet = unmet_calc g is kind m left law.usable law.last numbers matched one.0 one.2 x (same ∙ ap (λ o. record { classes = m.classes; class = m.class; given = o }) one.1) in
+          let each = each_more (IsUnmetCalc g kind) c.loop-one.found.items _ x c.loop-one.invariant.each w.in_ok-push.ensures.items unmet in
           record {
             chosen = subst (λ f. Chosen (AsItself D D) (map classes_in (take (i + 1) items)) (map classes_in f.items)) (sym w.found-is) after;
             each = subst (λ f. All (IsUnmetCalc g kind) f.items) (sym w.found-is) each;
           })
       | else-is_some w ↦
           (let there : is_some given ≡ false = search rules in
-          let none = none_if ((e : ℕ) → ¬ IsUnmetGiven g kind m e) (IsUnmetGiven g kind m) given exact there in
+          let none = none_if ((given : Given) → ¬ IsUnmetGiven g kind m given) (IsUnmetGiven g kind m) given exact there in
           let same = loop_skips items i m c.loop-one-test.true c.one-item.is D c.loop-one.found.items c.loop-one.invariant.chosen (met_if g is kind m left none) in
           record {
             chosen = subst (λ f. Chosen (AsItself D D) (map classes_in (take (i + 1) items)) (map classes_in f.items)) (sym w.found-is) same;

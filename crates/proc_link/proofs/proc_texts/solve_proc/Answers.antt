@@ -39,8 +39,8 @@ returns c =
     let right : AreRightResults Pinned (input_of_proc p) c.args.settings.now results =
     subst (λ (i : InputTree). AreRightResults Pinned i c.args.settings.now results) same c.in_ok-results.ensures.right in
     let is : IsInput (input_of_proc p) = subst IsInput same c.in_ok-input.ensures.well_formed in
-    let bytes : c.in_ok-answer.answer.bytes.items ≡ answer_text Pinned (input_of_proc p) results =
-    c.in_ok-answer.ensures.bytes ∙ (λ j. answer_text Pinned (same j) (c.deref.ensures.value j)) in
+    let bytes : c.in_ok-answer.answer.bytes.items ≡ answer_text Pinned c.args.settings.now.library (input_of_proc p) results =
+    c.in_ok-answer.ensures.bytes ∙ (λ j. answer_text Pinned c.args.settings.now.library (same j) (c.deref.ensures.value j)) in
     let ends : c.in_ok-answer.answer.status ≡ greatest_status results = c.in_ok-answer.ensures.status ∙ ap greatest_status c.deref.ensures.value in
     let behind : AppendsBehind p results c.in_ok-answer.answer.bytes.items c.put_behind.new.text.items =
     subst (λ (rs : List Answered). AppendsBehind p rs c.in_ok-answer.answer.bytes.items c.put_behind.new.text.items) c.deref-2.ensures.value c.in_ok-put_behind.ensures in

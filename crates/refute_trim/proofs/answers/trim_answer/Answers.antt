@@ -26,7 +26,7 @@ put_trimmed-requires-clause-goal c =
 pub loop-goal-init : goal.loop-goal-init
 loop-goal-init c =
     let a = c.args.answer.now in
-    trimmed_none a _ (c.in_ok-put_head.ensures ∙ ap (λ (t : List ℕ). t ++ lines_text (head_lines a.version a.encoding a.table a.builtin)) c.new-text.ensures.items)
+    trimmed_none a _ (c.in_ok-put_head.ensures ∙ ap (λ (t : List ℕ). t ++ lines_text (head_lines a.version a.encoding a.table a.builtin a.library)) c.new-text.ensures.items)
 
 pub loop-goal-preserved : goal.loop-goal-preserved
 loop-goal-preserved c =

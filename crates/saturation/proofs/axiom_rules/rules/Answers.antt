@@ -1,15 +1,13 @@
-use Rattle.std.proofs.Common.{map, All, sym, ◌∙◌, subst}
+use Rattle.std.proofs.Common.{[], map, All, sym, ap, ◌∙◌, subst}
 use Rattle.goal_meaning.specs.Views.{axiom_view}
 use Rattle.goal_meaning.specs.WellFormed.{IsAxiom}
-use Rattle.saturation.proofs.RuleSteps.{next_axiom, more_rules}
 use Rattle.saturation.proofs.axiom_rules.rules.Goals as goal
 
-pub rule-requires : goal.rule-requires
-rule-requires c =
+pub push_rules-requires : goal.push_rules-requires
+push_rules-requires c =
     let declared = c.args.input.now.ops in
-    let all = subst (λ xs. All (IsAxiom declared) (map axiom_view xs)) (sym c.as_slice-equation-items.ensures) c.requires.input.axioms in
-    record { equation = (declared, next_axiom c.as_slice-equation-items.result.now c.loop-equation.equation-index c.equation-item.result c.loop-equation-test.true c.equation-item.is declared all) }
+    (declared, subst (λ xs. All (IsAxiom declared) (map axiom_view xs)) (sym c.as_slice.ensures) c.requires.input.axioms)
 
-pub loop-equation-preserved : goal.loop-equation-preserved
-loop-equation-preserved c =
-    c.in_ok-push.ensures.ok ∙ more_rules c.as_slice-equation-items.result.now c.loop-equation.equation-index c.equation-item.result c.loop-equation-test.true c.equation-item.is c.loop-equation.program c.in_ok-rule.field-0 c.loop-equation.invariant c.in_ok-rule.ensures
+pub push_rules-requires-2 : goal.push_rules-requires-2
+push_rules-requires-2 c =
+    ([], subst (All (IsAxiom [])) (sym (ap (map axiom_view) c.as_slice-2.ensures ∙ c.in_ok-asked.ensures)) (c.library_axioms_are_well_formed.ensures.asked c.args.library))

@@ -1,4 +1,4 @@
-use Rattle.std.proofs.Common.{true, false, ◌≡◌, ◌^◌, ◌-◌, min, All, length, map, sym, ap, ◌∙◌, subst}
+use Rattle.std.proofs.Common.{true, false, ◌≡◌, ◌^◌, ◌-◌, ◌++◌, min, All, length, map, sym, ap, ◌∙◌, subst}
 use Rattle.std.proofs.lemmas.List.{length-map}
 use Rattle.std.proofs.lemmas.Option.{MatchOption-at_some, MatchOption-at_none}
 use Rattle.axiom_base.specs.Equations as rows
@@ -13,24 +13,24 @@ use Rattle.saturation.proofs.stepping.decide.Goals as goal
 use Rattle.saturation.proofs.stepping.decide.Goals.{After-len, In-Some}
 
 -- what the search found
-found_is : (c : In-Some) → AreFound c.args.graph.now c.args.program.now c.in-Some.unmet × All IsRule c.args.program.now
-    × (c.in-Some.unmet.need ≡ min (operators_asked (asked_of_all c.args.program.now c.in-Some.unmet)) (2 ^ 64 - 1))
+found_is : (c : In-Some) → AreFound c.args.graph.now c.args.rules.now c.in-Some.unmet × All IsRule c.args.rules.now.axioms
+    × (c.in-Some.unmet.need ≡ min (operators_asked (asked_of_all c.args.rules.now c.in-Some.unmet)) (2 ^ 64 - 1))
 found_is c = MatchOption-at_some _ _ c.in-Some.unmet c.in-Some.is c.in_ok-unmet.ensures.found
 
 pub ask-requires-clause-by_equation : goal.ask-requires-clause-by_equation
-ask-requires-clause-by_equation c = zip_length (AreUnmetOf c.args.graph.now) rows.equations c.in-Some.unmet.equations.items (found_is (goal.at.ask-requires-clause-by_equation c).In-Some).0.equations ∙ sym (ap length c.requires.equations)
+ask-requires-clause-by_equation c = zip_length (AreUnmetOf c.args.graph.now) rows.equations c.in-Some.unmet.equations.items (found_is (goal.at.ask-requires-clause-by_equation c).In-Some).0.equations
 
-pub ask-requires-clause-by_rule : goal.ask-requires-clause-by_rule
-ask-requires-clause-by_rule c = zip_length (AreUnmetOf c.args.graph.now) c.args.program.now c.in-Some.unmet.program.items (found_is (goal.at.ask-requires-clause-by_rule c).In-Some).0.program
+pub ask-requires-clause-by_axiom : goal.ask-requires-clause-by_axiom
+ask-requires-clause-by_axiom c = zip_length (AreUnmetOf c.args.graph.now) c.args.rules.now.axioms c.in-Some.unmet.axioms.items (found_is (goal.at.ask-requires-clause-by_axiom c).In-Some).0.axioms
 
 pub ask-requires-clause-by_kind : goal.ask-requires-clause-by_kind
-ask-requires-clause-by_kind c = zip_length (AreUnmetOfKind c.args.graph.now) calc_kinds c.in-Some.unmet.kinds.items (found_is (goal.at.ask-requires-clause-by_kind c).In-Some).0.kinds
+ask-requires-clause-by_kind c = zip_length (AreUnmetOfKind c.args.graph.now) (calc_kinds ++ c.args.rules.now.kinds) c.in-Some.unmet.kinds.items (found_is (goal.at.ask-requires-clause-by_kind c).In-Some).0.kinds
 
-are_asked : (c : After-len) → AreAsked c.args.graph.now (schemes c.args.program.now) (map asked_of c.in_ok-asked.asked.items)
+are_asked : (c : After-len) → AreAsked c.args.graph.now (schemes c.args.rules.now) (map asked_of c.in_ok-asked.asked.items)
 are_asked c =
     let g = c.args.graph.now in
-    let axioms = c.args.program.now in
-    subst (AreAsked g (schemes axioms)) (sym c.in_ok-asked.ensures.asked) (all_are_asked c.schemes_are_true.ensures.weights g c.operators_are_listed.ensures.each c.matches_have_sorts.ensures.folds axioms c.in-Some.unmet (MatchOption-at_some _ _ c.in-Some.unmet c.in-Some.is c.in_ok-unmet.ensures.found).0)
+    let added = c.args.rules.now in
+    subst (AreAsked g (schemes added)) (sym c.in_ok-asked.ensures.asked) (all_are_asked c.schemes_are_true.ensures.weights g c.operators_are_listed.ensures.each c.matches_have_sorts.ensures.folds added c.in-Some.unmet (MatchOption-at_some _ _ c.in-Some.unmet c.in-Some.is c.in_ok-unmet.ensures.found).0)
 
 count_is : (c : After-len) → c.len.result ≡ length (map asked_of c.in_ok-asked.asked.items)
 count_is c = c.len.ensures ∙ c.in_ok-asked.asked.ok.0 ∙ sym (length-map c.in_ok-asked.asked.items asked_of)
@@ -55,10 +55,10 @@ pub returns-in-Some-stop_of : goal.returns-in-Some-stop_of
 returns-in-Some-stop_of c =
     let k = (goal.at.returns-in-Some-stop_of c).After-len in
     let fits = MatchOption-at_some _ _ c.in-Some-stop_of.stop c.in-Some-stop_of.is c.stop_of.ensures in
-    record { step = end_fits c.args.program.now c.args.graph.now (map asked_of c.in_ok-asked.asked.items) (are_asked k) c.in-Some.unmet.need c.rows.result c.args.nodes c.args.last c.in-Some-stop_of.stop (need_is k) c.rows.ensures.value c.if-last.false (subst (λ n. StopFits n c.in-Some.unmet.need c.rows.result c.args.nodes c.in-Some-stop_of.stop) (count_is k) fits) }
+    record { step = end_fits c.args.rules.now c.args.graph.now (map asked_of c.in_ok-asked.asked.items) (are_asked k) c.in-Some.unmet.need c.rows.result c.args.nodes c.args.last c.in-Some-stop_of.stop (need_is k) c.rows.ensures.value c.if-last.false (subst (λ n. StopFits n c.in-Some.unmet.need c.rows.result c.args.nodes c.in-Some-stop_of.stop) (count_is k) fits) }
 
 pub returns : goal.returns
 returns c =
     let k = (goal.at.returns c).After-len in
     let none = MatchOption-at_none _ _ c.in-None.is c.stop_of.ensures in
-    record { step = goes_on_with c.args.program.now c.args.graph.now c.args.last (map asked_of c.in_ok-asked.asked.items) c.in-Some.unmet.need c.rows.result c.args.nodes c.len.result (are_asked k) (count_is k) (need_is k) c.rows.ensures.value c.requires.nodes (found_is (goal.at.returns c).In-Some).1 c.if-last.false none }
+    record { step = goes_on_with c.args.rules.now c.args.graph.now c.args.last (map asked_of c.in_ok-asked.asked.items) c.in-Some.unmet.need c.rows.result c.args.nodes c.len.result (are_asked k) (count_is k) (need_is k) c.rows.ensures.value c.requires.nodes (found_is (goal.at.returns c).In-Some).1 c.if-last.false none }
