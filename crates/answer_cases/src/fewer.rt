@@ -3,6 +3,7 @@ ghost use Rattle.std.specs.Prelude.{◌≤◌, ◌^◌, length};
 
 use case_files::{Trouble, Words, split_line};
 use case_inputs::{put_formula, question_in};
+use denali_run::Allocation;
 use std::alloc::Global;
 
 /// Input: a machine form, which may be left out, a graph's lines, a line `cycles K`, and a line `launches N`. Answers
@@ -17,7 +18,14 @@ pub(crate) fn fewer(alloc: Global, input: &[u8]) -> Result<Vec<u8>, Trouble>
     if launches > 192 {
         return Err(Trouble::Unread);
     }
-    let fewer = least_launch::fewer(alloc, &asked.graph, &asked.table, asked.cycles, launches);
+    let fewer = least_launch::fewer(
+        alloc,
+        &asked.graph,
+        &asked.table,
+        Allocation::Block,
+        asked.cycles,
+        launches,
+    );
     let mut report = Vec::new(alloc);
     put_formula(&mut report, fewer)?;
     Ok(report)

@@ -3,14 +3,15 @@ use Rattle.std.proofs.Common.{◌≡◌, ◌≢◌, ℕ, ◌-◌, ◌<◌, ◌�
 use Rattle.std.specs.Prelude.{IfOk, IfSome, IfNone, MatchOption}
 use Rattle.cnf_core.specs.Formula.{Formula}
 use Rattle.cnf_core.specs.declared.line.Lines.{Lines}
-use Rattle.cycle_encoding.specs.CycleFormula.{Scope}
-use Rattle.cycle_encoding.specs.CycleFormula.{listed_in}
+use Rattle.cycle_encoding.specs.Allocations.{allocation_of}
+use Rattle.cycle_encoding.specs.CycleFormula.{Scope, allocation_in, listed_in}
 use Rattle.cycle_encoding.specs.Encodings.{IsScope}
 use Rattle.cycle_encoding.specs.declared.encodings.Encoding.{Encoding}
 use Rattle.graph_meaning.specs.declared.graphs.LaunchGraph.{LaunchGraph}
 use Rattle.machine_table.specs.declared.tables.Table.{Table}
 use Rattle.order_encoding.specs.WholeFormula.{AreFormulas, formula_in}
 use Rattle.schedule_meaning.specs.Fits.{Fits}
+use Rattle.schedule_meaning.specs.declared.schedules.Allocation.{Allocation}
 use Rattle.schedule_meaning.specs.declared.schedules.Launch.{Launch}
 use Rattle.answer_texts.specs.AnswerLines.{refuted_below}
 use Rattle.answer_texts.specs.WellFormed.{HasRefutation, nothing_less, refuted, IsClaimed, no_world, worked}
@@ -32,25 +33,30 @@ pub where_none : {A P : Type 0} (Q : A → Type 0) (o : Option A) → o ≡ None
 where_none Q None is h = h
 where_none Q (Some x) is h = absurd (cc)
 
+-- and where something was found, that holds of it
+pub where_some : {A : Type 0} (P : Type 0) (Q : A → Type 0) (o : Option A) (x : A) → o ≡ Some x → MatchOption o P Q → Q x
+where_some P Q None x is h = absurd (cc)
+where_some P Q (Some y) x is h = (let same : y ≡ x = cc in subst Q same h)
+
 pub if_none : {A P : Type 0} (o : Option A) → o ≡ None → IfNone o P → P
 if_none None is h = h
 if_none (Some x) is h = absurd (cc)
 
-module _ (table : Table) (g : LaunchGraph) where
+module _ (table : Table) (a : Allocation) (g : LaunchGraph) where
   -- what fits in fewer cycles fits in one less than so many
-  pub none_below : ((k m : ℕ) (ls : List Launch) → k ≤ m → Fits g table k ls → Fits g table m ls)
+  pub none_below : ((k m : ℕ) (ls : List Launch) → k ≤ m → Fits g table a k ls → Fits g table a m ls)
       → (below : ℕ) (refute : Option Lines) → HasRefutation below refute
-      → IfSome refute (λ (l : Lines). (ls : List Launch) → Fits g table (below - 1) ls → ⊥)
-      → NoneFitsBelow table g below
+      → IfSome refute (λ (l : Lines). (ls : List Launch) → Fits g table a (below - 1) ls → ⊥)
+      → NoneFitsBelow table a g below
   none_below longer _ _ nothing_less none = λ j ls less fit. absurd (omega (arith, less))
   none_below longer _ _ (refuted {k} few some) none =
       λ j ls less fit. none ls (longer j (k - 1) ls (omega (arith, less)) fit)
 
   pub true_claim : (clauses_for : ℕ → Formula) (claim : Claim) → ((class a b : ℕ) → claim ≢ NoWorld class a b)
-      → IsFitting table g claim → DoesAsClaimed table g claim → HasRightSize clauses_for claim
-      → HasLemmas clauses_for claim → NoneFitsBelow table g (refuted_below claim)
-      → IsTrueClaim table g clauses_for claim
-  true_claim f (NoWorld class a b) world fits does size lemmas none = world class a b refl
+      → IsFitting table a g claim → DoesAsClaimed table a g claim → HasRightSize clauses_for claim
+      → HasLemmas clauses_for claim → NoneFitsBelow table a g (refuted_below claim)
+      → IsTrueClaim table a g clauses_for claim
+  true_claim f (NoWorld class x y) world fits does size lemmas none = world class x y refl
   true_claim f (Scheduled k schedule words places) world fits does size lemmas none = (fits, does, none)
   true_claim f (Missing k) world fits does size lemmas none = none
   true_claim f (SpentConflicts k lines) world fits does size lemmas none = (none, lemmas)
@@ -74,13 +80,15 @@ formulas_at e g h table s same is =
 
 pub tested_where : {E : Type 0} (e : Encoding) (table : Table) (c : Claimed) (g h : LaunchGraph) (s : Scope)
     → c.graph ≡ Some g → h ≡ g → IsScope e h table s → (r : Result Verdict E)
-    → IfOk r (IsOutcome table g (formula_in s h table) c) → IfOk r (IsVerdict e table c)
-tested_where e table c g h s is same of (Ok v) o = tested is (formulas_at e g h table s same of) o
+    → IfOk r (IsOutcome table (allocation_in s) g (formula_in s h table) c) → IfOk r (IsVerdict e table c)
+tested_where e table c g h s is same of (Ok v) o =
+    tested is (formulas_at e g h table s same of)
+    (subst (λ (x : Encoding). IsOutcome table (allocation_of x) g (formula_in s h table) c v) of.encoding o)
 tested_where e table c g h s is same of (Err x) o = tt
 
 pub sound_where : {E : Type 0} (e : Encoding) (table : Table) (c : Claimed) (g h : LaunchGraph) (s : Scope)
     → c.graph ≡ Some g → h ≡ g → IsScope e h table s → (r : Result Verdict E)
-    → IfOk r (λ v. v ≡ Holds → IsTrueClaim table g (formula_in s h table) c.claim)
+    → IfOk r (λ v. v ≡ Holds → IsTrueClaim table (allocation_in s) g (formula_in s h table) c.claim)
     → IfOk r (λ v. v ≡ Holds → IsSound e table c)
 sound_where e table c g h s is same of (Ok v) o =
     λ holds. record {
@@ -88,7 +96,8 @@ sound_where e table c g h s is same of (Ok v) o =
       printed = is;
       clauses_for = formula_in s h table;
       formulas = formulas_at e g h table s same of;
-      claim = o holds;
+      claim = subst (λ (x : Encoding). IsTrueClaim table (allocation_of x) g (formula_in s h table) c.claim)
+          of.encoding (o holds);
     }
 sound_where e table c g h s is same of (Err x) o = tt
 

@@ -5,3 +5,4 @@ pub mod Claims
 pub mod Judging
 pub mod Refusals
 pub mod OneOutcome
+pub mod RefusedBelow

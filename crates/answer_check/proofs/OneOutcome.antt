@@ -8,12 +8,14 @@ use Rattle.cnf_core.specs.declared.line.Lines.{Lines}
 use Rattle.cycle_encoding.specs.CycleFormula.{Listed}
 use Rattle.cycle_encoding.specs.Encodings.{AreListed}
 use Rattle.cycle_encoding.specs.Plans.{IsTooLarge, PassesLimit}
+use Rattle.cycle_encoding.specs.Allocations.{allocation_of}
 use Rattle.cycle_encoding.specs.declared.encodings.Encoding.{Encoding}
 use Rattle.graph_meaning.specs.declared.graphs.LaunchGraph.{LaunchGraph}
 use Rattle.machine_table.specs.declared.tables.Table.{Table}
 use Rattle.order_encoding.specs.WholeFormula.{AreFormulas, whole_formula}
 use Rattle.schedule_meaning.specs.Broken.{IsFirstBroken}
 use Rattle.schedule_meaning.specs.Fits.{Fits}
+use Rattle.schedule_meaning.specs.declared.schedules.Allocation.{Allocation}
 use Rattle.schedule_meaning.specs.declared.schedules.Launch.{Launch}
 use Rattle.answer_texts.specs.AnswerLines.{refuted_below, refuted_cycles}
 use Rattle.answer_texts.specs.WellFormed.{FitsClaim, IsClaimed, no_world, worked}
@@ -49,14 +51,14 @@ module _ (f : Formula) where
   refuted_apart (Some l) line why right r =
       right_not_refused (IsEmptyOnlyLast l.lines) f l.lines line why right r
 
-module _ (table : Table) (g : LaunchGraph)
-    (once : (k : ℕ) (ls : List Launch) (i j r s : ℕ) → IsFirstBroken g table k ls i r → IsFirstBroken g table k ls j s
+module _ (table : Table) (al : Allocation) (g : LaunchGraph)
+    (once : (k : ℕ) (ls : List Launch) (i j r s : ℕ) → IsFirstBroken g table al k ls i r → IsFirstBroken g table al k ls j s
     → (i ≡ j) × (r ≡ s))
-    (fit_apart : (k : ℕ) (ls : List Launch) (i r : ℕ) → Fits g table k ls → IsFirstBroken g table k ls i r → ⊥)
+    (fit_apart : (k : ℕ) (ls : List Launch) (i r : ℕ) → Fits g table al k ls → IsFirstBroken g table al k ls i r → ⊥)
     (clauses_for : ℕ → Formula) where
   -- ---- the tests of claims
 
-  broken_once : (claim : Claim) (i j r s : ℕ) → IsBroken table g claim i r → IsBroken table g claim j s
+  broken_once : (claim : Claim) (i j r s : ℕ) → IsBroken table al g claim i r → IsBroken table al g claim j s
       → (i ≡ j) × (r ≡ s)
   broken_once (Scheduled k schedule words places) i j r s h e = once k schedule.launches i j r s h e
   broken_once (NoWorld class a b) i j r s h e = absurd h
@@ -64,7 +66,7 @@ module _ (table : Table) (g : LaunchGraph)
   broken_once (SpentConflicts k lemmas) i j r s h e = absurd h
   broken_once (SpentSize k vars clauses) i j r s h e = absurd h
 
-  broken_apart : (claim : Claim) (i r : ℕ) → IsBroken table g claim i r → IsFitting table g claim → ⊥
+  broken_apart : (claim : Claim) (i r : ℕ) → IsBroken table al g claim i r → IsFitting table al g claim → ⊥
   broken_apart (Scheduled k schedule words places) i r h fits = fit_apart k schedule.launches i r fits h
   broken_apart (NoWorld class a b) i r h fits = h
   broken_apart (Missing k) i r h fits = h
@@ -125,7 +127,7 @@ module _ (table : Table) (g : LaunchGraph)
     last_stage (Lemmas k line why) = omega arith
     last_stage Holds = omega arith
 
-    earlier : (v w : Verdict) → stage v < stage w → IsOutcome table g clauses_for c v → IsOutcome table g clauses_for c w → ⊥
+    earlier : (v w : Verdict) → stage v < stage w → IsOutcome table al g clauses_for c v → IsOutcome table al g clauses_for c w → ⊥
     earlier Seen w lt h e = h
     earlier (Broken i r) Listing lt h e = broken_apart c.claim i r h e.0
     earlier (Broken i r) (Size v x) lt h e = broken_apart c.claim i r h e.0
@@ -144,7 +146,7 @@ module _ (table : Table) (g : LaunchGraph)
     earlier (Lemmas k l y) Holds lt h e = lemma_apart c.claim k l y h.5 e.5
     earlier v w lt h e = absurd (omega (arith, lt, last_stage w))
 
-    same_stage : (v w : Verdict) → stage v ≡ stage w → IsOutcome table g clauses_for c v → IsOutcome table g clauses_for c w → v ≡ w
+    same_stage : (v w : Verdict) → stage v ≡ stage w → IsOutcome table al g clauses_for c v → IsOutcome table al g clauses_for c w → v ≡ w
     same_stage Seen Seen is h e = refl
     same_stage (Broken i r) (Broken j s) is h e =
         let o = broken_once c.claim i j r s h e in
@@ -172,7 +174,7 @@ module _ (table : Table) (g : LaunchGraph)
     same_stage Holds Holds is h e = refl
     same_stage v w is h e = absurd (omega (arith, is))
 
-    pub one_outcome : (v w : Verdict) → IsOutcome table g clauses_for c v → IsOutcome table g clauses_for c w → v ≡ w
+    pub one_outcome : (v w : Verdict) → IsOutcome table al g clauses_for c v → IsOutcome table al g clauses_for c w → v ≡ w
     one_outcome v w h e =
         let a : ¬ (stage v < stage w) = λ lt. earlier v w lt h e in
         let b : ¬ (stage w < stage v) = λ lt. earlier w v lt e h in
@@ -252,20 +254,20 @@ wrong_as a b same c v x fits (own within wrong ev ec) =
     (λ right. wrong (size_as b a (λ k few. sym (same k few)) c.claim fits right))
     (ev ∙ ap (λ (f : Formula). f.vars) e) (ec ∙ ap (λ (f : Formula). length f.clauses) e)
 
-outcome_as : (table : Table) (g : LaunchGraph) (a b : ℕ → Formula) → ((k : ℕ) → k ≤ most_cycles → a k ≡ b k) → (c : Claimed)
-    (v : Verdict) → FitsClaim c.claim → IsOutcome table g a c v → IsOutcome table g b c v
-outcome_as table g a b same c Seen fits h = h
-outcome_as table g a b same c (Broken i r) fits h = h
-outcome_as table g a b same c Listing fits h = h
-outcome_as table g a b same c (Size v x) fits h = (h.0, h.1, wrong_as a b same c v x fits h.2)
-outcome_as table g a b same c (Refutation k l y) fits h = (
+outcome_as : (table : Table) (al : Allocation) (g : LaunchGraph) (a b : ℕ → Formula) → ((k : ℕ) → k ≤ most_cycles → a k ≡ b k) → (c : Claimed)
+    (v : Verdict) → FitsClaim c.claim → IsOutcome table al g a c v → IsOutcome table al g b c v
+outcome_as table al g a b same c Seen fits h = h
+outcome_as table al g a b same c (Broken i r) fits h = h
+outcome_as table al g a b same c Listing fits h = h
+outcome_as table al g a b same c (Size v x) fits h = (h.0, h.1, wrong_as a b same c v x fits h.2)
+outcome_as table al g a b same c (Refutation k l y) fits h = (
   h.0,
   h.1,
   within_as a b same c fits h.2,
   size_as a b same c.claim fits h.3,
   refused_as a b same c k l y fits h.4,
 )
-outcome_as table g a b same c (Lemmas k l y) fits h = (
+outcome_as table al g a b same c (Lemmas k l y) fits h = (
   h.0,
   h.1,
   within_as a b same c fits h.2,
@@ -273,7 +275,7 @@ outcome_as table g a b same c (Lemmas k l y) fits h = (
   lines_as a b same (refuted_cycles c.claim) (few_cycles c.claim fits) c.refute h.4,
   lemma_as a b same c.claim k l y fits h.5,
 )
-outcome_as table g a b same c Holds fits h = (
+outcome_as table al g a b same c Holds fits h = (
   h.0,
   h.1,
   within_as a b same c fits h.2,
@@ -296,9 +298,9 @@ fits_where version c g (no_world is none refute) some = absurd (let e = sym none
 fits_where version c g (worked world graph formed unpinned fits refute) some = fits
 
 pub one_verdict_only : OneList → (e : Encoding) (table : Table) (version : ℕ) (c : Claimed)
-    → ((g : LaunchGraph) (k : ℕ) (ls : List Launch) (i j r s : ℕ) → IsFirstBroken g table k ls i r
-    → IsFirstBroken g table k ls j s → (i ≡ j) × (r ≡ s))
-    → ((g : LaunchGraph) (k : ℕ) (ls : List Launch) (i r : ℕ) → Fits g table k ls → IsFirstBroken g table k ls i r → ⊥)
+    → ((g : LaunchGraph) (al : Allocation) (k : ℕ) (ls : List Launch) (i j r s : ℕ) → IsFirstBroken g table al k ls i r
+    → IsFirstBroken g table al k ls j s → (i ≡ j) × (r ≡ s))
+    → ((g : LaunchGraph) (al : Allocation) (k : ℕ) (ls : List Launch) (i r : ℕ) → Fits g table al k ls → IsFirstBroken g table al k ls i r → ⊥)
     → IsClaimed version c → (v w : Verdict) → IsVerdict e table c v → IsVerdict e table c w → v ≡ w
 one_verdict_only one e table version c once apart is v w (seen claim p) (seen also d) = p ∙ sym d
 one_verdict_only one e table version c once apart is v w (seen {class} {a} {b} claim p) (tested {g} {clauses_for = f} graph of h) =
@@ -309,6 +311,7 @@ one_verdict_only one e table version c once apart is v w (tested {g} {clauses_fo
     let s : Some k ≡ Some g = sym too ∙ graph in
     let same : k ≡ g = cc in
     let there = subst (λ (x : LaunchGraph). AreFormulas e x table m) same with_other in
-    one_outcome table g (once g) (apart g) f c v w h
-    (outcome_as table g m f (one_formula one e g table m f there of) c w (fits_where version c g is graph)
-    (subst (λ (x : LaunchGraph). IsOutcome table x m c w) same o))
+    let al = allocation_of e in
+    one_outcome table al g (once g al) (apart g al) f c v w h
+    (outcome_as table al g m f (one_formula one e g table m f there of) c w (fits_where version c g is graph)
+    (subst (λ (x : LaunchGraph). IsOutcome table al x m c w) same o))

@@ -9,7 +9,7 @@ use Rattle.answer_texts.specs.AnswerLines.{refuted_below, refuted_cycles}
 use Rattle.answer_texts.specs.declared.answers.Claim.{Claim}
 use Rattle.answer_texts.specs.declared.answers.Claim.TheVariants.{SpentConflicts, SpentSize}
 use Rattle.answer_texts.specs.declared.answers.Claimed.{Claimed}
-use Rattle.answer_check.specs.Verdicts.{HasRightSize, IsWithinBelow}
+use Rattle.answer_check.specs.Verdicts.{HasRightSize, HasWrongSize, IsWithinBelow, own}
 
 module _ (clauses_for : ℕ → Formula) where
   -- the counts for k cycles where one passes its limit
@@ -51,3 +51,10 @@ module _ (clauses_for : ℕ → Formula) where
   pub printed_size : (claim : Claim) (k vars clauses : ℕ) → claim ≡ SpentSize k vars clauses
       → (found : Option Sizes) → WrongSize (SpentSize k vars clauses) found → WrongSize claim found
   printed_size claim k vars clauses is found h = subst (λ (x : Claim). WrongSize x found) (sym is) h
+
+  -- what is found of the claim's own clauses, where those that lines are to refute are within the limits
+  pub own_size_wrong : (c : Claimed) → IsWithinBelow clauses_for c → (found : Option Sizes) → WrongSize c.claim found
+      → MatchOption found (IsWithinBelow clauses_for c × HasRightSize clauses_for c.claim)
+      (λ (s : Sizes). HasWrongSize clauses_for c s.vars s.clauses)
+  own_size_wrong c within None h = (within, h)
+  own_size_wrong c within (Some s) h = own within h.0 h.1 h.2

@@ -6,7 +6,7 @@ use Rattle.answer_texts.specs.declared.answers.Claim.{Claim}
 use Rattle.answer_texts.specs.declared.answers.Claim.TheVariants.{NoWorld, Scheduled, Missing, SpentConflicts, SpentSize}
 use Rattle.answer_texts.specs.declared.answers.Claimed.{Claimed}
 use Rattle.cycle_encoding.specs.declared.encodings.Encoding.{Encoding}
-use Rattle.cycle_encoding.specs.declared.encodings.Encoding.TheVariants.{Wide, Narrow, Pinned}
+use Rattle.cycle_encoding.specs.declared.encodings.Encoding.TheVariants.{Wide, Narrow, Pinned, Live}
 use Rattle.machine_table.specs.declared.tables.Table.{Table}
 use Rattle.text_core.specs.LineTexts.{Words, lines_text}
 use Rattle.answer_check.specs.Soundness.{IsSound}
@@ -48,7 +48,8 @@ verdict_lines (c ∷ cs) (v ∷ vs) = verdict_words c v ∷ verdict_lines cs vs
 
 -- the encoding that an answer names by its number
 abbrev pub encoding_named : ℕ → Encoding
-encoding_named number = if number == 3 then Pinned else if number == 2 then Narrow else Wide
+encoding_named number =
+    if number == 4 then Live else if number == 3 then Pinned else if number == 2 then Narrow else Wide
 
 -- the goal's verdict; and where all tests hold, what is claimed is true
 pub record IsJudged (e : Encoding) (table : Table) (c : Claimed) (v : Verdict) : Type 0 where

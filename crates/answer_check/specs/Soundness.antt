@@ -5,6 +5,7 @@ use Rattle.answer_texts.specs.declared.answers.Claim.TheVariants.{NoWorld, Sched
 use Rattle.answer_texts.specs.declared.answers.Claimed.{Claimed}
 use Rattle.cnf_core.specs.Formula.{Formula}
 use Rattle.cnf_core.specs.Refutation.{AreLemmas}
+use Rattle.cycle_encoding.specs.Allocations.{allocation_of}
 use Rattle.cycle_encoding.specs.Plans.{PassesLimit}
 use Rattle.cycle_encoding.specs.declared.encodings.Encoding.{Encoding}
 use Rattle.graph_meaning.specs.declared.graphs.LaunchGraph.{LaunchGraph}
@@ -15,40 +16,42 @@ use Rattle.register_assign.specs.Outcomes.{AreWordsOf}
 use Rattle.register_assign.specs.declared.listings.Item.{Item}
 use Rattle.register_assign.specs.declared.listings.Where.{Where}
 use Rattle.schedule_meaning.specs.Fits.{Fits}
+use Rattle.schedule_meaning.specs.declared.schedules.Allocation.{Allocation}
 use Rattle.schedule_meaning.specs.declared.schedules.Launch.{Launch}
 
 -- These are the words and places of the launches' listing. Where the graph is proper its instructions keep to the table
 -- in k cycles, and the words do what the graph says.
-pub record DoesAsListed (table : Table) (g : LaunchGraph) (k : ℕ) (ls : List Launch) (words : List ℕ)
+pub record DoesAsListed (table : Table) (a : Allocation) (g : LaunchGraph) (k : ℕ) (ls : List Launch) (words : List ℕ)
     (places : List Where) : Type 0 where
   pub items : List Item
-  pub listing : IsTheListing g table ls items places
+  pub listing : IsTheListing g table a ls items places
   pub words_are : AreWordsOf items words
   pub keeps : KeepsWord g table k items places
 
-abbrev pub DoesAsClaimed : Table → LaunchGraph → Claim → Type 0
-DoesAsClaimed table g (Scheduled k schedule words places) = DoesAsListed table g k schedule.launches words places
-DoesAsClaimed table g claim = Unit {0}
+abbrev pub DoesAsClaimed : Table → Allocation → LaunchGraph → Claim → Type 0
+DoesAsClaimed table a g (Scheduled k schedule words places) = DoesAsListed table a g k schedule.launches words places
+DoesAsClaimed table a g claim = Unit {0}
 
 -- no list of launches fits in fewer cycles than k
-abbrev pub NoneFitsBelow : Table → LaunchGraph → ℕ → Type 0
-NoneFitsBelow table g k = (j : ℕ) (ls : List Launch) → j < k → Fits g table j ls → ⊥
+abbrev pub NoneFitsBelow : Table → Allocation → LaunchGraph → ℕ → Type 0
+NoneFitsBelow table a g k = (j : ℕ) (ls : List Launch) → j < k → Fits g table a j ls → ⊥
 
--- what is claimed is true, by the clauses for each number of cycles
-abbrev pub IsTrueClaim : Table → LaunchGraph → (ℕ → Formula) → Claim → Type 0
-IsTrueClaim table g clauses_for (NoWorld class a b) = ⊥
-IsTrueClaim table g clauses_for (Scheduled k schedule words places) =
-    Fits g table k schedule.launches × DoesAsListed table g k schedule.launches words places × NoneFitsBelow table g k
-IsTrueClaim table g clauses_for (Missing k) = NoneFitsBelow table g (k + 1)
-IsTrueClaim table g clauses_for (SpentConflicts k lemmas) =
-    NoneFitsBelow table g k × AreLemmas (clauses_for k) lemmas.lines
-IsTrueClaim table g clauses_for (SpentSize k vars clauses) =
-    NoneFitsBelow table g k × PassesLimit (clauses_for k) vars clauses
+-- what is claimed of schedules with this allocation is true, by the clauses for each number of cycles
+abbrev pub IsTrueClaim : Table → Allocation → LaunchGraph → (ℕ → Formula) → Claim → Type 0
+IsTrueClaim table a g clauses_for (NoWorld class x y) = ⊥
+IsTrueClaim table a g clauses_for (Scheduled k schedule words places) =
+    Fits g table a k schedule.launches × DoesAsListed table a g k schedule.launches words places
+    × NoneFitsBelow table a g k
+IsTrueClaim table a g clauses_for (Missing k) = NoneFitsBelow table a g (k + 1)
+IsTrueClaim table a g clauses_for (SpentConflicts k lemmas) =
+    NoneFitsBelow table a g k × AreLemmas (clauses_for k) lemmas.lines
+IsTrueClaim table a g clauses_for (SpentSize k vars clauses) =
+    NoneFitsBelow table a g k × PassesLimit (clauses_for k) vars clauses
 
--- what is claimed of the printed graph is true, by the clauses of the encoding
+-- what is claimed of the printed graph is true, by the encoding's allocation and clauses
 pub record IsSound (e : Encoding) (table : Table) (c : Claimed) : Type 0 where
   pub graph : LaunchGraph
   pub printed : c.graph ≡ Some graph
   pub clauses_for : ℕ → Formula
   pub formulas : AreFormulas e graph table clauses_for
-  pub claim : IsTrueClaim table graph clauses_for c.claim
+  pub claim : IsTrueClaim table (allocation_of e) graph clauses_for c.claim

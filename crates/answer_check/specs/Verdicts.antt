@@ -8,6 +8,7 @@ use Rattle.answer_texts.specs.declared.answers.Claimed.{Claimed}
 use Rattle.cnf_core.specs.Formula.{Formula}
 use Rattle.cnf_core.specs.Refutation.{Refutes, AreLemmas, IsFirstRefusal, IsEmptyOnlyLast, IsFilled}
 use Rattle.cnf_core.specs.declared.line.Lines.{Lines}
+use Rattle.cycle_encoding.specs.Allocations.{allocation_of}
 use Rattle.cycle_encoding.specs.Plans.{IsTooLarge, PassesLimit}
 use Rattle.cycle_encoding.specs.declared.encodings.Encoding.{Encoding}
 use Rattle.graph_meaning.specs.declared.graphs.LaunchGraph.{LaunchGraph}
@@ -18,31 +19,32 @@ use Rattle.register_assign.specs.declared.listings.Item.{Item}
 use Rattle.register_assign.specs.declared.listings.Where.{Where}
 use Rattle.schedule_meaning.specs.Broken.{IsFirstBroken}
 use Rattle.schedule_meaning.specs.Fits.{Fits}
+use Rattle.schedule_meaning.specs.declared.schedules.Allocation.{Allocation}
 use Rattle.schedule_meaning.specs.declared.schedules.Launch.{Launch}
 use Rattle.answer_check.specs.declared.verdicts.Verdict.{Verdict}
 use Rattle.answer_check.specs.declared.verdicts.Verdict.TheVariants.{Holds, Seen, Broken, Listing, Size, Refutation, Lemmas}
 
 -- these are the words and the places of the launches' listing
-pub record HasListing (g : LaunchGraph) (table : Table) (ls : List Launch) (words : List ℕ) (places : List Where)
-    : Type 0 where
+pub record HasListing (g : LaunchGraph) (table : Table) (a : Allocation) (ls : List Launch) (words : List ℕ)
+    (places : List Where) : Type 0 where
   pub items : List Item
-  pub listing : IsTheListing g table ls items places
-  pub words_are : words ≡ map (λ a. encoded a.instr) items
+  pub listing : IsTheListing g table a ls items places
+  pub words_are : words ≡ map (λ i. encoded i.instr) items
 
 -- ---- the tests, in their order; each holds of the claims that it doesn't concern
 
-module _ (table : Table) (g : LaunchGraph) where
+module _ (table : Table) (a : Allocation) (g : LaunchGraph) where
   abbrev pub IsFitting : Claim → Type 0
-  IsFitting (Scheduled k schedule words places) = Fits g table k schedule.launches
+  IsFitting (Scheduled k schedule words places) = Fits g table a k schedule.launches
   IsFitting claim = Unit {0}
 
   abbrev pub IsListed : Claim → Type 0
-  IsListed (Scheduled k schedule words places) = HasListing g table schedule.launches words places
+  IsListed (Scheduled k schedule words places) = HasListing g table a schedule.launches words places
   IsListed claim = Unit {0}
 
   -- the first launch that breaks the least broken rule
   abbrev pub IsBroken : Claim → ℕ → ℕ → Type 0
-  IsBroken (Scheduled k schedule words places) launch rule = IsFirstBroken g table k schedule.launches launch rule
+  IsBroken (Scheduled k schedule words places) launch rule = IsFirstBroken g table a k schedule.launches launch rule
   IsBroken claim launch rule = ⊥
 
 -- the clauses for each number of cycles
@@ -89,27 +91,27 @@ module _ (clauses_for : ℕ → Formula) where
 
 -- ---- the first test that fails, and how; or that all hold
 
-module _ (table : Table) (g : LaunchGraph) (clauses_for : ℕ → Formula) where
+module _ (table : Table) (a : Allocation) (g : LaunchGraph) (clauses_for : ℕ → Formula) where
   abbrev pub IsOutcome : Claimed → Verdict → Type 0
   IsOutcome c Seen = ⊥
-  IsOutcome c (Broken launch rule) = IsBroken table g c.claim launch rule
-  IsOutcome c Listing = IsFitting table g c.claim × (¬ IsListed table g c.claim)
+  IsOutcome c (Broken launch rule) = IsBroken table a g c.claim launch rule
+  IsOutcome c Listing = IsFitting table a g c.claim × (¬ IsListed table a g c.claim)
   IsOutcome c (Size vars clauses) =
-      IsFitting table g c.claim × IsListed table g c.claim × HasWrongSize clauses_for c vars clauses
+      IsFitting table a g c.claim × IsListed table a g c.claim × HasWrongSize clauses_for c vars clauses
   IsOutcome c (Refutation k line why) =
-      IsFitting table g c.claim × IsListed table g c.claim × IsWithinBelow clauses_for c
+      IsFitting table a g c.claim × IsListed table a g c.claim × IsWithinBelow clauses_for c
       × HasRightSize clauses_for c.claim × IsRefusedBelow clauses_for c k line why
   IsOutcome c (Lemmas k line why) =
-      IsFitting table g c.claim × IsListed table g c.claim × IsWithinBelow clauses_for c
+      IsFitting table a g c.claim × IsListed table a g c.claim × IsWithinBelow clauses_for c
       × HasRightSize clauses_for c.claim × HasRefutingLines clauses_for c
       × HasRefusedLemma clauses_for c.claim k line why
   IsOutcome c Holds =
-      IsFitting table g c.claim × IsListed table g c.claim × IsWithinBelow clauses_for c
+      IsFitting table a g c.claim × IsListed table a g c.claim × IsWithinBelow clauses_for c
       × HasRightSize clauses_for c.claim × HasRefutingLines clauses_for c × HasLemmas clauses_for c.claim
 
--- The verdict on a claimed goal: one without a world is seen and isn't tested, each other one is tested by the clauses
--- of the encoding, built from the graph and the table alone.
+-- The verdict on a claimed goal: one without a world is seen and isn't tested, each other one is tested by the
+-- encoding's allocation and its clauses, built from the graph and the table alone.
 pub data IsVerdict (e : Encoding) (table : Table) (c : Claimed) (v : Verdict) : Type 0 where
   seen : {class a b : ℕ} → c.claim ≡ NoWorld class a b → v ≡ Seen → IsVerdict e table c v
   tested : {g : LaunchGraph} {clauses_for : ℕ → Formula} → c.graph ≡ Some g → AreFormulas e g table clauses_for
-      → IsOutcome table g clauses_for c v → IsVerdict e table c v
+      → IsOutcome table (allocation_of e) g clauses_for c v → IsVerdict e table c v

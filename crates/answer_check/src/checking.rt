@@ -6,6 +6,7 @@ ghost use Rattle.answer_check.specs.declared.verdicts.Verdict.TheVariants.{Holds
 ghost use Rattle.answer_texts.specs.AnswerLines as format;
 ghost use Rattle.answer_texts.specs.WellFormed.{FitsClaim, HasRefutation, IsClaimed};
 ghost use Rattle.answer_texts.specs.declared.answers.Claim.TheVariants.{NoWorld};
+ghost use Rattle.cycle_encoding.specs.CycleFormula.{allocation_in};
 ghost use Rattle.cycle_encoding.specs.Encodings.{IsScope};
 ghost use Rattle.graph_meaning.specs.WellFormed.{IsLaunchGraph};
 ghost use Rattle.machine_table.specs.Tables.{IsTable};
@@ -39,21 +40,24 @@ fn check_claim(
     requires claim { FitsClaim goal.now.claim }
     requires world { (class a b : ℕ) → goal.now.claim ≢ NoWorld class a b }
     requires refute { HasRefutation (format.refuted_below goal.now.claim) goal.now.refute }
-    ensures outcome { IfOk result (IsOutcome table.now graph.now (formula_in scope.now facts.now table.now) goal.now) }
+    ensures outcome { IfOk result
+        (IsOutcome table.now (allocation_in scope.now) graph.now (formula_in scope.now facts.now table.now) goal.now) }
     ensures sound { IfOk result (λ v. v ≡ Holds
-        → IsTrueClaim table.now graph.now (formula_in scope.now facts.now table.now) goal.now.claim) }
+        → IsTrueClaim table.now (allocation_in scope.now) graph.now (formula_in scope.now facts.now table.now)
+        goal.now.claim) }
 {
     schedules_fit_or_break();
-    if let Err(broken) = fits_as_claimed(graph, table, &goal.claim) {
+    let allocation = scope.allocation();
+    if let Err(broken) = fits_as_claimed(graph, table, allocation, &goal.claim) {
         return Ok(Verdict::Broken {
             launch: broken.launch,
             rule: broken.rule,
         });
     }
-    if !is_listed(alloc, graph, table, &goal.claim)? {
+    if !is_listed(alloc, graph, table, allocation, &goal.claim)? {
         return Ok(Verdict::Listing);
     }
-    if let Some(sizes) = wrong_size(facts, table, scope, goal) {
+    if let Some(sizes) = wrong_size(alloc, facts, table, scope, goal)? {
         return Ok(Verdict::Size {
             vars: sizes.vars,
             clauses: sizes.clauses,

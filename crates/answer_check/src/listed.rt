@@ -13,21 +13,22 @@ use graph_meaning::LaunchGraph;
 use items::NoMemory;
 use machine_table::Table;
 use register_assign::{Where, assign, words_of};
-use schedule_meaning::{Broken, Schedule, fits};
+use schedule_meaning::{Allocation, Broken, Schedule, fits};
 use std::alloc::Global;
 
 /// Whether the schedule of a claim fits.
 pub(crate) fn fits_as_claimed(
     graph: &LaunchGraph,
     table: &Table,
+    allocation: Allocation,
     claim: &Claim,
 ) -> Result<(), Broken>
     requires { FitsClaim claim.now }
-    ensures fits { OnOk result (IsFitting table.now graph.now claim.now) }
-    ensures broken { IfErr result (λ b. IsBroken table.now graph.now claim.now b.launch b.rule) }
+    ensures fits { OnOk result (IsFitting table.now allocation graph.now claim.now) }
+    ensures broken { IfErr result (λ b. IsBroken table.now allocation graph.now claim.now b.launch b.rule) }
 {
     match claim {
-        Claim::Scheduled { k, schedule, .. } => fits(graph, table, *k, schedule),
+        Claim::Scheduled { k, schedule, .. } => fits(graph, table, allocation, *k, schedule),
         Claim::NoWorld { .. } => Ok(()),
         Claim::Missing { .. } => Ok(()),
         Claim::SpentConflicts { .. } => Ok(()),
@@ -66,6 +67,7 @@ fn is_listing(
     alloc: Global,
     graph: &LaunchGraph,
     table: &Table,
+    allocation: Allocation,
     k: u32,
     schedule: &Schedule,
     words: &[u32],
@@ -73,14 +75,14 @@ fn is_listing(
 ) -> Result<bool, NoMemory>
     requires graph { IsLaunchGraph graph.now }
     requires table { IsTable table.now }
-    requires fits { Fits graph.now table.now k schedule.now.launches }
+    requires fits { Fits graph.now table.now allocation k schedule.now.launches }
     requires few { k ≤ most_cycles }
     ensures same { IfOk result
-        (λ b. IsTrue b ↔ HasListing graph.now table.now schedule.now.launches words.now places.now) }
+        (λ b. IsTrue b ↔ HasListing graph.now table.now allocation schedule.now.launches words.now places.now) }
     ensures does { IfOk result
-        (λ b. IsTrue b → DoesAsListed table.now graph.now k schedule.now.launches words.now places.now) }
+        (λ b. IsTrue b → DoesAsListed table.now allocation graph.now k schedule.now.launches words.now places.now) }
 {
-    let listing = assign(alloc, graph, table, k, schedule)?;
+    let listing = assign(alloc, graph, table, allocation, k, schedule)?;
     let own = words_of(alloc, listing.items.as_slice())?;
     let same = same_words(own.as_slice(), words);
     Ok(same && same_places(places, listing.wheres.as_slice()))
@@ -91,14 +93,15 @@ pub(crate) fn is_listed(
     alloc: Global,
     graph: &LaunchGraph,
     table: &Table,
+    allocation: Allocation,
     claim: &Claim,
 ) -> Result<bool, NoMemory>
     requires graph { IsLaunchGraph graph.now }
     requires table { IsTable table.now }
     requires claim { FitsClaim claim.now }
-    requires fits { IsFitting table.now graph.now claim.now }
-    ensures listed { IfOk result (λ b. IsTrue b ↔ IsListed table.now graph.now claim.now) }
-    ensures does { IfOk result (λ b. IsTrue b → DoesAsClaimed table.now graph.now claim.now) }
+    requires fits { IsFitting table.now allocation graph.now claim.now }
+    ensures listed { IfOk result (λ b. IsTrue b ↔ IsListed table.now allocation graph.now claim.now) }
+    ensures does { IfOk result (λ b. IsTrue b → DoesAsClaimed table.now allocation graph.now claim.now) }
 {
     match claim {
         Claim::Scheduled {
@@ -110,6 +113,7 @@ pub(crate) fn is_listed(
             alloc,
             graph,
             table,
+            allocation,
             *k,
             schedule,
             words.as_slice(),

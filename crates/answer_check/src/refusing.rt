@@ -6,6 +6,7 @@ ghost use Rattle.answer_texts.specs.AnswerLines as format;
 ghost use Rattle.answer_texts.specs.WellFormed.{FitsClaim, HasRefutation};
 ghost use Rattle.cnf_core.specs.Formula.{Satisfies};
 ghost use Rattle.cnf_core.specs.Refutation.{AreLemmas, IsEmptyOnlyLast, IsFilled, IsFirstRefusal, Refutes};
+ghost use Rattle.cycle_encoding.specs.CycleFormula.{allocation_in};
 ghost use Rattle.cycle_encoding.specs.Encodings.{IsScope};
 ghost use Rattle.cycle_encoding.specs.Plans.{IsTooLarge};
 ghost use Rattle.graph_meaning.specs.WellFormed.{IsLaunchGraph};
@@ -38,7 +39,7 @@ fn clauses(
     requires scope { IsScope scope.now.encoding facts.now table.now scope.now }
     requires within { ¬ IsTooLarge (formula_in scope.now facts.now table.now k) }
     ensures formula { IfOk result (λ cnf. cnf ≡ formula_in scope.now facts.now table.now k) }
-    ensures each { IfOk result (λ cnf. (ls : List LaunchOf) → Fits facts.now table.now k ls
+    ensures each { IfOk result (λ cnf. (ls : List LaunchOf) → Fits facts.now table.now (allocation_in scope.now) k ls
         → (v : ℕ → Bool) × Satisfies v cnf.clauses) }
 {
     each_encoding_says_fits();
@@ -70,7 +71,8 @@ fn refused_line(
         (formula_in scope.now facts.now table.now k) lines.now.lines
         e.line e.why)) }
     ensures none_fits { IfOk result
-        (λ found. IfNone found ((ls : List LaunchOf) → Fits facts.now table.now k ls → ⊥)) }
+        (λ found. IfNone found ((ls : List LaunchOf)
+        → Fits facts.now table.now (allocation_in scope.now) k ls → ⊥)) }
 {
     let cnf = clauses(alloc, facts, table, scope, k)?;
     let mut marks = Marks::new(alloc, cnf.vars())?;
@@ -126,7 +128,8 @@ pub(crate) fn refused_below(
         (λ e. IsRefusedBelow (formula_in scope.now facts.now table.now) goal.now
         (format.refuted_cycles goal.now.claim) e.line e.why)) }
     ensures none_fits { IfOk result (λ found. IfNone found (IfSome goal.now.refute
-        (λ l. (ls : List LaunchOf) → Fits facts.now table.now (format.refuted_cycles goal.now.claim) ls → ⊥))) }
+        (λ l. (ls : List LaunchOf)
+        → Fits facts.now table.now (allocation_in scope.now) (format.refuted_cycles goal.now.claim) ls → ⊥))) }
 {
     match &goal.refute {
         None => Ok(None),

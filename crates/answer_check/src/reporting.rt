@@ -74,6 +74,7 @@ pub fn encoding_named(number: u8) -> Encoding
     ensures { result ≡ encoding_named number }
 {
     match number {
+        4 => Encoding::Live,
         3 => Encoding::Pinned,
         2 => Encoding::Narrow,
         _ => Encoding::Wide,

@@ -28,9 +28,10 @@ version_once words x y a b =
     let less = b.known.1 in
     number_same 1 x y (version_words x) (version_words y) (omega (arith, low)) (omega (arith, less)) (sym a.is ∙ b.is) refl refl
 
-pub encoding_low : (version encoding : ℕ) → GoTogether version encoding → encoding ≤ 3
+pub encoding_low : (version encoding : ℕ) → GoTogether version encoding → encoding ≤ 4
 encoding_low version encoding (inl is) = (let low = is.2 in omega (arith, low))
-encoding_low version encoding (inr is) = (let three = is.1 in omega (arith, three))
+encoding_low version encoding (inr (inl is)) = (let three = is.1 in omega (arith, three))
+encoding_low version encoding (inr (inr is)) = (let four = is.1 in omega (arith, four))
 
 pub encoding_once : (version : ℕ) (words : Words) (x y : ℕ) → IsEncoding version words x → IsEncoding version words y → x ≡ y
 encoding_once version words x y a b =

@@ -35,7 +35,7 @@ PrintedAreGraphs version =
     → length g.rows ≤ 1000000 → from ≤ next → next ≤ length lines → words_between lines from next ≡ graph_lines (said g)
     → EndsGraph (words_from lines next) → IsGraphOf version lines from next g
 
--- so it is of those without pins in version 1, and of all in version 2
+-- so it is of those without pins in version 1, and of all from version 2 on
 abbrev pub PlainAreGraphs : Type 0
 PlainAreGraphs =
     (lines : List Line) (from next : ℕ) (g : LaunchGraph) → IsLaunchGraph g → HasNoPins g → length g.rows ≤ 1000000
@@ -44,17 +44,20 @@ PlainAreGraphs =
 
 abbrev pub PinnedAreGraphs : Type 0
 PinnedAreGraphs =
-    (lines : List Line) (from next : ℕ) (g : LaunchGraph) → IsLaunchGraph g → length g.rows ≤ 1000000
+    (version : ℕ) (lines : List Line) (from next : ℕ) (g : LaunchGraph) → 2 ≤ version → IsLaunchGraph g
+    → length g.rows ≤ 1000000
     → from ≤ next → next ≤ length lines → words_between lines from next ≡ graph_lines (said g)
-    → EndsGraph (words_from lines next) → IsGraphOf 2 lines from next g
+    → EndsGraph (words_from lines next) → IsGraphOf version lines from next g
 
 pub printed_are_graphs : PlainAreGraphs → PinnedAreGraphs → (version encoding : ℕ) → GoTogether version encoding
     → PrintedAreGraphs version
 printed_are_graphs first second version encoding (inl pair) lines from next g is plain few order within words ends =
     subst (λ v. IsGraphOf v lines from next g) (sym pair.0)
     (first lines from next g is (plain pair.0) few order within words ends)
-printed_are_graphs first second version encoding (inr pair) lines from next g is plain few order within words ends =
-    subst (λ v. IsGraphOf v lines from next g) (sym pair.0) (second lines from next g is few order within words ends)
+printed_are_graphs first second version encoding (inr (inl pair)) lines from next g is plain few order within words ends =
+    second version lines from next g (let two = pair.0 in omega (arith, two)) is few order within words ends
+printed_are_graphs first second version encoding (inr (inr pair)) lines from next g is plain few order within words ends =
+    second version lines from next g (let three = pair.0 in omega (arith, three)) is few order within words ends
 
 join_behind : (g c r l e b : List Words) → (g ++ (c ++ (r ++ (l ++ e)))) ++ b ≡ g ++ (c ++ (r ++ (l ++ (e ++ b))))
 join_behind g c r l e b =

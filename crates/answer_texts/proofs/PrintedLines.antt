@@ -122,8 +122,10 @@ name_there slots k lt =
 pair_low : (version encoding : ℕ) → GoTogether version encoding → (version < 2 ^ 64) × (encoding < 2 ^ 64)
 pair_low version encoding (inl is) =
     ((let one = is.0 in omega (arith, one)), (let two = is.2 in omega (arith, two)))
-pair_low version encoding (inr is) =
+pair_low version encoding (inr (inl is)) =
     ((let two = is.0 in omega (arith, two)), (let three = is.1 in omega (arith, three)))
+pair_low version encoding (inr (inr is)) =
+    ((let three = is.0 in omega (arith, three)), (let four = is.1 in omega (arith, four)))
 
 module _ (laws : WordLaws) where
   -- a word, and a number

@@ -29,9 +29,10 @@ goals_begin_not first other table (c ∷ goals) =
     subst (BeginsNot first) (sym (flat_map-cons (goal_lines table) c goals)) other
 
 -- the version that goes with some encoding
-version_low : (version encoding : ℕ) → GoTogether version encoding → (1 ≤ version) × (version ≤ 2)
+version_low : (version encoding : ℕ) → GoTogether version encoding → (1 ≤ version) × (version ≤ 3)
 version_low version encoding (inl is) = (let one = is.0 in (omega (arith, one), omega (arith, one)))
-version_low version encoding (inr is) = (let two = is.0 in (omega (arith, two), omega (arith, two)))
+version_low version encoding (inr (inl is)) = (let two = is.0 in (omega (arith, two), omega (arith, two)))
+version_low version encoding (inr (inr is)) = (let three = is.0 in (omega (arith, three), omega (arith, three)))
 
 module _ (lines : List Line) where
   -- ---- the table

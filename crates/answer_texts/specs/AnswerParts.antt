@@ -42,12 +42,15 @@ use Rattle.answer_texts.specs.declared.parts.TableLine.TheVariants as tables
 -- ---- the head
 
 pub record IsVersion (words : Words) (version : ℕ) : Type 0 where
-  pub known : (1 ≤ version) × (version ≤ 2)
+  pub known : (1 ≤ version) × (version ≤ 3)
   pub is : words ≡ version_words version
 
--- version 1 is that of the two encodings without pins, and version 2 that of the one with pins
+-- version 1 is that of the two encodings without pins, version 2 that of the one with pins, and version 3 that of the
+-- one by live ranges
 abbrev pub GoTogether : ℕ → ℕ → Type 0
-GoTogether version encoding = ((version ≡ 1) × (1 ≤ encoding) × (encoding ≤ 2)) ⊎ ((version ≡ 2) × (encoding ≡ 3))
+GoTogether version encoding =
+    ((version ≡ 1) × (1 ≤ encoding) × (encoding ≤ 2))
+    ⊎ (((version ≡ 2) × (encoding ≡ 3)) ⊎ ((version ≡ 3) × (encoding ≡ 4)))
 
 pub record IsEncoding (version : ℕ) (words : Words) (encoding : ℕ) : Type 0 where
   pub known : GoTogether version encoding

@@ -54,8 +54,8 @@ pub struct Claimed {
     pub refute: Option<Lines>,
 }
 
-/// What the text of an answer says. In version 1 the encoding of the clauses is 1 or 2; in version 2 it is 3, and targets
-/// may have pins. `library` are the families whose rules served the goals beside those of their text.
+/// What the text of an answer says. In version 1 the encoding of the clauses is 1 or 2; in version 2 it is 3, and in
+/// version 3 it is 4, and in both targets may have pins. `library` are the families whose rules served the goals beside those of their text.
 #[derive(Drop)]
 pub struct AnswerText {
     pub version: u8,

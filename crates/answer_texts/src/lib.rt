@@ -3,7 +3,7 @@
 //! Each text parses to exactly one answer, or has exactly one first fault. Whether what it claims is true is tested
 //! elsewhere.
 //!
-//! Proved: `read_answer` gives exactly the answer that a text of either version says (`answer`, `read`), or its
+//! Proved: `read_answer` gives exactly the answer that a text of each version says (`answer`, `read`), or its
 //! first fault, exactly where there is one (`fault`, `refused`). A text says one answer at most, and then it has no
 //! fault (`one_answer`). What was read prints the bytes that were read (`read_answers_print_their_text`), and each
 //! answer that can be printed (`Printable`) is what its text says (`printed_answers_are_read`). Only tables within

@@ -23,10 +23,10 @@ use text_core::{
 };
 
 /// The numbers of versions are 1 up to below this one.
-const VERSIONS: u64 = 3;
+const VERSIONS: u64 = 4;
 
 /// The numbers of encodings are 1 up to below this one.
-const ENCODINGS: u64 = 4;
+const ENCODINGS: u64 = 5;
 
 /// Numbers on lines are below this one, except words of 64 bits.
 pub(crate) const LIMIT: u64 = 1 << 31;
@@ -75,6 +75,7 @@ fn go_together(version: u8, encoding: u64) -> bool
     match version {
         1 => encoding == 1 || encoding == 2,
         2 => encoding == 3,
+        3 => encoding == 4,
         _ => false,
     }
 }

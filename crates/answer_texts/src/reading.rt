@@ -77,7 +77,7 @@ fn answer(alloc: Global, text: &[u8]) -> Result<AnswerText, TextFault>
     answer_in(alloc, &text)
 }
 
-/// Reads the text of an answer in version 1 or 2. In version 2 targets may have pins, and a launch may go to one of
+/// Reads the text of an answer in version 1, 2 or 3. In versions 2 and 3 targets may have pins, and a launch may go to one of
 /// them. A fault is the text's first: BadByte, BadLine, BadRow or BadClass. The cost is linear in the length of the text,
 /// beside the cost of reading its graphs, and for each launch to a pin that of looking at the targets of its goal.
 pub fn read_answer(alloc: Global, text: &[u8]) -> Result<AnswerText, TextFault>

@@ -11,7 +11,6 @@ use Rattle.code_lift.specs.Lifted.{goal_of_lift}
 use Rattle.code_lift.specs.Limits.{most_goal_operators}
 use Rattle.code_lift.specs.Views.{LiftTree, LiftsTree}
 use Rattle.code_lift.specs.WellFormed.{IsLift}
-use Rattle.cycle_encoding.specs.declared.encodings.Encoding.TheVariants.{Pinned}
 use Rattle.denali_run.specs.ClaimedResults.{StartsWithinFormat}
 use Rattle.denali_run.specs.Right.{Right}
 use Rattle.denali_run.specs.declared.results.Answered.{Answered}
@@ -21,9 +20,9 @@ use Rattle.denali_run.specs.declared.settings.Settings.{Settings}
 use Rattle.code_improve.specs.Improved.{DoesTheSame, IsImproved}
 
 module _ (s : Settings) (lifts : LiftsTree)
-    (law : (lift : LiftTree) (f : Found) → IsLift lift → Right Pinned (input_of_lifts lifts) (goal_of_lift lift) s (Scheduled f) → DoesTheSame lift f.words) where
+    (law : (lift : LiftTree) (f : Found) → IsLift lift → Right (input_of_lifts lifts) (goal_of_lift lift) s (Scheduled f) → DoesTheSame lift f.words) where
   one_same : (lift : LiftTree) (answered : Answered) → IsLift lift
-      → Right Pinned (input_of_lifts lifts) (goal_of_lift lift) s answered → IsImproved lift answered
+      → Right (input_of_lifts lifts) (goal_of_lift lift) s answered → IsImproved lift answered
   one_same lift (Scheduled f) is right = law lift f is right
   one_same lift (Nowhere m) is right = tt
   one_same lift (SpentConflicts t) is right = tt
@@ -31,7 +30,7 @@ module _ (s : Settings) (lifts : LiftsTree)
   one_same lift (NoWorld class a b) is right = tt
 
   pub all_same : (ls : List LiftTree) (results : List Answered) → All IsLift ls
-      → AllZip (λ goal answered. Right Pinned (input_of_lifts lifts) goal s answered) (map goal_of_lift ls) results
+      → AllZip (λ goal answered. Right (input_of_lifts lifts) goal s answered) (map goal_of_lift ls) results
       → AllZip IsImproved ls results
   all_same [] [] each right = tt
   all_same [] (r ∷ rs) each right = absurd right

@@ -8,7 +8,7 @@ use Rattle.cnf_core.specs.declared.line.Lines.{Lines}
 use Rattle.code_lift.specs.LiftGrammar.{ReadsLifts}
 use Rattle.code_lift.specs.Views.{LiftTree, LiftsTree}
 use Rattle.cycle_encoding.specs.Plans.{IsTooLarge}
-use Rattle.cycle_encoding.specs.declared.encodings.Encoding.TheVariants.{Pinned}
+use Rattle.cycle_encoding.specs.declared.encodings.Encoding.TheVariants as encodings
 use Rattle.denali_run.specs.Right.{ByClauses, IsLeast}
 use Rattle.graph_meaning.specs.declared.graphs.LaunchGraph.{LaunchGraph}
 use Rattle.machine_table.specs.declared.tables.Table.{Table}
@@ -17,18 +17,21 @@ use Rattle.reports.specs.Statuses.{greater}
 use Rattle.reports.specs.declared.statuses.Status.{Status}
 use Rattle.reports.specs.declared.statuses.Status.TheVariants as status
 use Rattle.schedule_meaning.specs.Fits.{Fits}
+use Rattle.schedule_meaning.specs.declared.schedules.Allocation.{Allocation}
+use Rattle.schedule_meaning.specs.declared.schedules.Allocation.TheVariants.{Live}
 use Rattle.schedule_meaning.specs.declared.schedules.Launch.{Launch}
 use Rattle.text_core.specs.LineTexts.{Words, lines_text}
 use Rattle.code_improve.specs.declared.counting.CycleCount.{CycleCount}
 use Rattle.code_improve.specs.declared.counting.CycleCount.TheVariants.{Fewest, Over, Spent}
 
 -- some schedule fits in k cycles
-abbrev pub CanBeDone : LaunchGraph → Table → ℕ → Type 0
-CanBeDone g table k = (ls : List Launch) × Fits g table k ls
+abbrev pub CanBeDone : LaunchGraph → Table → Allocation → ℕ → Type 0
+CanBeDone g table a k = (ls : List Launch) × Fits g table a k ls
 
 -- no schedule fits in fewer cycles than k, and lines refute the clauses for k - 1
-abbrev pub IsLeastFor : (ℕ → Formula) → LaunchGraph → Table → ℕ → ℕ → Type 0
-IsLeastFor clauses_for g table conflicts k = (refutation : Option Lines) × IsLeast clauses_for g table conflicts k refutation
+abbrev pub IsLeastFor : (ℕ → Formula) → LaunchGraph → Table → Allocation → ℕ → ℕ → Type 0
+IsLeastFor clauses_for g table a conflicts k =
+    (refutation : Option Lines) × IsLeast clauses_for g table a conflicts k refutation
 
 -- the clauses for k cycles are too large, or the solver spent its conflicts on them
 abbrev pub IsSpentOn : (ℕ → Formula) → ℕ → ℕ → Type 0
@@ -36,19 +39,19 @@ IsSpentOn clauses_for conflicts k =
     IsTooLarge (clauses_for k) ⊎ ((lemmas : List Line) × IsSpent (clauses_for k) conflicts lemmas)
 
 -- what is said of a graph is true, by the clauses for each number of cycles
-abbrev pub IsCountBy : (ℕ → Formula) → LaunchGraph → Table → ℕ → ℕ → CycleCount → Type 0
-IsCountBy clauses_for g table cycles conflicts (Fewest k) =
-    (k ≤ cycles) × CanBeDone g table k × IsLeastFor clauses_for g table conflicts k
-IsCountBy clauses_for g table cycles conflicts (Over k) =
-    (k ≡ cycles) × IsLeastFor clauses_for g table conflicts (k + 1)
-IsCountBy clauses_for g table cycles conflicts (Spent k) =
-    (k ≤ cycles) × IsSpentOn clauses_for conflicts k × IsLeastFor clauses_for g table conflicts k
+abbrev pub IsCountBy : (ℕ → Formula) → LaunchGraph → Table → Allocation → ℕ → ℕ → CycleCount → Type 0
+IsCountBy clauses_for g table a cycles conflicts (Fewest k) =
+    (k ≤ cycles) × CanBeDone g table a k × IsLeastFor clauses_for g table a conflicts k
+IsCountBy clauses_for g table a cycles conflicts (Over k) =
+    (k ≡ cycles) × IsLeastFor clauses_for g table a conflicts (k + 1)
+IsCountBy clauses_for g table a cycles conflicts (Spent k) =
+    (k ≤ cycles) × IsSpentOn clauses_for conflicts k × IsLeastFor clauses_for g table a conflicts k
 
--- it is true of the graph of the lift's own words
+-- it is true of the graph of the lift's own words, where a register is free again when its word was read last
 pub record IsCountOf (table : Table) (cycles conflicts : ℕ) (lift : LiftTree) (count : CycleCount) : Type 0 where
   pub graph : LaunchGraph
   pub own : IsOwnGraph lift graph
-  pub is : ByClauses Pinned graph table (λ clauses_for. IsCountBy clauses_for graph table cycles conflicts count)
+  pub is : ByClauses encodings.Live graph table (λ clauses_for. IsCountBy clauses_for graph table Live cycles conflicts count)
 
 -- `cycles NAME K`, `none NAME K` or `spent NAME K`
 abbrev pub count_words : List ℕ → CycleCount → Words

@@ -5,7 +5,6 @@ use Rattle.answer_texts.specs.ReadAnswers.{ReadsAnswer}
 use Rattle.code_lift.specs.Goals.{input_of_lifts}
 use Rattle.code_lift.specs.LiftGrammar.{ReadsLifts}
 use Rattle.code_lift.specs.Views.{LiftsTree}
-use Rattle.cycle_encoding.specs.declared.encodings.Encoding.TheVariants.{Pinned}
 use Rattle.denali_run.specs.ClaimedResults.{answer_text, answer_to}
 use Rattle.denali_run.specs.Right.{AreRightResults}
 use Rattle.denali_run.specs.TextAnswers.{greatest_status}
@@ -26,10 +25,10 @@ pub record ImprovesText (s : Settings) (text bytes : List ℕ) (ending : Status)
   pub lifts : LiftsTree
   pub reads : ReadsLifts text lifts
   pub results : List Answered
-  pub right : AreRightResults Pinned (input_of_lifts lifts) s results
+  pub right : AreRightResults (input_of_lifts lifts) s results
   pub same : AllZip IsImproved lifts.lifts results
-  pub bytes_are : bytes ≡ answer_text Pinned s.library (input_of_lifts lifts) results
-  pub read_back : ReadsAnswer bytes (answer_to Pinned s.library (input_of_lifts lifts) results)
+  pub bytes_are : bytes ≡ answer_text s (input_of_lifts lifts) results
+  pub read_back : ReadsAnswer bytes (answer_to s (input_of_lifts lifts) results)
   pub status_is : ending ≡ greatest_status results
 
 -- The same, and of each schedule is said whether one with fewer launches fits.
@@ -37,10 +36,10 @@ pub record ImprovesLeast (s : Settings) (text bytes : List ℕ) (ending : Status
   pub lifts : LiftsTree
   pub reads : ReadsLifts text lifts
   pub results : List Answered
-  pub right : AreRightResults Pinned (input_of_lifts lifts) s results
+  pub right : AreRightResults (input_of_lifts lifts) s results
   pub same : AllZip IsImproved lifts.lifts results
   pub said : List (Option Tail)
-  pub each : AllZip (IsTailOf lifts.table s.conflicts) results said
-  pub bytes_are : bytes ≡ answer_text Pinned s.library (input_of_lifts lifts) results ++ lines_text (tail_lines said)
-  pub read_back : ReadsTailed bytes (answer_to Pinned s.library (input_of_lifts lifts) results) said
+  pub each : AllZip (IsTailOf lifts.table s.allocation s.conflicts) results said
+  pub bytes_are : bytes ≡ answer_text s (input_of_lifts lifts) results ++ lines_text (tail_lines said)
+  pub read_back : ReadsTailed bytes (answer_to s (input_of_lifts lifts) results) said
   pub status_is : ending ≡ least_status results said

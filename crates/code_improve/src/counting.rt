@@ -17,6 +17,7 @@ use denali_run::{Pick, Reached, Settings, Trial, fewest_cycles};
 use items::NoMemory;
 use machine_table::Table;
 use own_graph::own_graph;
+use schedule_meaning::Allocation;
 use std::alloc::Global;
 
 /// What is found of the number of cycles of words: the fewest in which they can be done, that the most that were asked
@@ -32,7 +33,7 @@ pub enum CycleCount {
 fn count_of(reached: &Reached) -> CycleCount
     ensures { (clauses_for : ℕ → Formula) (g : LaunchGraph) (table : TableOf) (s : SettingsOf)
         → IsTrialsEnd clauses_for g table s reached.now
-        → IsCountBy clauses_for g table s.cycles s.conflicts result }
+        → IsCountBy clauses_for g table s.allocation s.cycles s.conflicts result }
 {
     match &reached.trial {
         Trial::Fitting(_) => CycleCount::Fewest(reached.k),
@@ -41,8 +42,8 @@ fn count_of(reached: &Reached) -> CycleCount
     }
 }
 
-/// The fewest cycles in which the words of a lift can be done, in any order and with registers renamed, or what was found
-/// up to so many cycles with so many conflicts for each.
+/// The fewest cycles in which the words of a lift can be done, in any order and with registers renamed, where each is
+/// free again when its word was read last, or what was found up to so many cycles with so many conflicts for each.
 pub fn count_cycles(
     alloc: Global,
     table: &Table,
@@ -64,6 +65,7 @@ pub fn count_cycles(
         conflicts,
         pick: Pick::First,
         library: Library::none(),
+        allocation: Allocation::Live,
     };
     let reached = fewest_cycles(alloc, &graph, table, &settings)?;
     Ok(count_of(&reached))

@@ -25,7 +25,7 @@ pub fn improve_text(alloc: Global, text: &[u8], settings: &Settings) -> Result<R
     let lifts = read(alloc, text)?;
     let input = goals(alloc, lifts)?;
     let results = solve_input(alloc, &input, settings)?;
-    Ok(answer_text(alloc, settings.library, &input, &results)?)
+    Ok(answer_text(alloc, settings, &input, &results)?)
 }
 
 /// The same with schedules of the fewest launches, and behind it, of each of these, the lines for one launch fewer.
@@ -45,11 +45,5 @@ pub fn improve_least_text(
     let lifts = read(alloc, text)?;
     let input = goals(alloc, lifts)?;
     let solved = solve_least_input(alloc, &input, settings)?;
-    Ok(report_least(
-        alloc,
-        settings.library,
-        &input,
-        &solved.results,
-        &solved.said,
-    )?)
+    Ok(report_least(alloc, settings, &input, &solved.results, &solved.said)?)
 }

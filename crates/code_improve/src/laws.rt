@@ -4,7 +4,6 @@ ghost use Rattle.code_lift.specs.Goals.{input_of_lifts};
 ghost use Rattle.code_lift.specs.Lifted.{goal_of_lift};
 ghost use Rattle.code_lift.specs.Views.{LiftTree, LiftsTree};
 ghost use Rattle.code_lift.specs.WellFormed.{IsLift};
-ghost use Rattle.cycle_encoding.specs.declared.encodings.Encoding.TheVariants.{Pinned};
 ghost use Rattle.denali_run.specs.Right.{Right};
 ghost use Rattle.denali_run.specs.declared.results.Answered.TheVariants.{Scheduled};
 ghost use Rattle.denali_run.specs.declared.results.Found.{Found as FoundOf};
@@ -17,7 +16,7 @@ use code_lift::lifted_goals_are_their_code;
 /// register that the given words don't write and that isn't in the pool is as at entry.
 pub fn improved_code_is_the_same()
     ensures { (s : SettingsOf) (lifts : LiftsTree) (lift : LiftTree) (f : FoundOf) → IsLift lift
-        → Right Pinned (input_of_lifts lifts) (goal_of_lift lift) s (Scheduled f) → DoesTheSame lift f.words }
+        → Right (input_of_lifts lifts) (goal_of_lift lift) s (Scheduled f) → DoesTheSame lift f.words }
 {
     lifted_goals_are_their_code();
 }

@@ -5,6 +5,7 @@ use Rattle.cnf_core.specs.declared.literal.Lit.{Lit}
 use Rattle.cnf_core.specs.Formula.{Formula}
 use Rattle.machine_table.specs.declared.tables.Table.{Table}
 use Rattle.graph_meaning.specs.declared.graphs.LaunchGraph.{LaunchGraph}
+use Rattle.schedule_meaning.specs.declared.schedules.Allocation.{Allocation}
 use Rattle.schedule_meaning.specs.declared.schedules.Launch.{Launch}
 use Rattle.cycle_encoding.specs.Shapes.{numbered, counters, counters_vars, counters_size}
 use Rattle.cycle_encoding.specs.Variables.{Seen}
@@ -17,9 +18,9 @@ use Rattle.cycle_encoding.specs.Steps.{with_clauses}
 use Rattle.cycle_encoding.proofs.Rows.{with_counters}
 use Rattle.cycle_encoding.proofs.Built.{room_of_sights, room_of_slots, built}
 
-module _ (g : LaunchGraph) (table : Table) (k : ℕ) (ls : List Launch) (ds : List Seen) where
+module _ (g : LaunchGraph) (table : Table) (allocation : Allocation) (k : ℕ) (ls : List Launch) (ds : List Seen) where
   abbrev pub list : Listed
-  list = record { launches = ls; seen = ds }
+  list = record { allocation = allocation; launches = ls; seen = ds }
 
   abbrev n : ℕ
   n = before_counters g table k list

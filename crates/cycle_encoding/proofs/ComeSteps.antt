@@ -1,6 +1,6 @@
 -- By which cycles classes come, one row more at a time.
 use Rattle.std.proofs.Common.{◌≡◌, ℕ, zero, suc, ◌+◌, ◌<◌, ◌≤◌, Bool, true, false, cond, List, [], ◌∷◌, ◌++◌, length, map, take, set, get_or, refl, sym, ap, ◌∙◌, subst, arith, inl, inr, ◌⊎◌, Option, Some, None}
-use Rattle.std.specs.Prelude.{◌==◌, nat_le, Contains, option_map, option_and_then}
+use Rattle.std.specs.Prelude.{◌==◌, nat_le, Contains, option_and_then}
 use Rattle.std.specs.Option.{option_map_or}
 use Rattle.std.specs.List.{range_with_len}
 use Rattle.std.proofs.lemmas.Bool.{false≢true, cases_lt, cases_eq, leb-true, le-leb, lt-ltb, le-ltb}
@@ -8,21 +8,24 @@ use Rattle.std.proofs.lemmas.Bool.{and_parts, and_from, and_left, and_right}
 use Rattle.std.proofs.lemmas.Option.{same_Some, none-some}
 use Rattle.std.proofs.lemmas.List.{get_or-set_same, get_or-set_other, take_more}
 use Rattle.std.proofs.lemmas.List.Elements.{All-contains}
-use Rattle.machine_table.specs.Tables.{IsTable, IsUse, use_of, latency_of}
+use Rattle.machine_table.specs.Tables.{IsTable, IsUse, use_of}
 use Rattle.machine_table.specs.InstrOrder.{kind_number}
-use Rattle.schedule_meaning.specs.Launches.{instr_at, gives_word, class_at}
+use Rattle.schedule_meaning.specs.Launches.{instr_at, gives_word, is_branch, is_store, class_at}
+use Rattle.schedule_meaning.specs.declared.schedules.Allocation.{Allocation}
+use Rattle.schedule_meaning.specs.declared.schedules.Launch.{Launch}
 use Rattle.schedule_meaning.specs.declared.schedules.To.TheVariants.{Pool}
 use Rattle.machine_table.specs.declared.tables.Table.{Table}
 use Rattle.machine_table.specs.declared.tables.Use.{Use}
 use Rattle.machine_table.specs.declared.tables.InstrKind.{InstrKind}
+use Rattle.machine_table.specs.declared.tables.InstrKind.TheVariants.{Operate, Lda, Ldah, Load, Store, Beq}
 use Rattle.graph_meaning.specs.WellFormed.{IsLaunchGraph, next_class}
 use Rattle.graph_meaning.specs.declared.graphs.LaunchGraph.{LaunchGraph}
-use Rattle.cycle_encoding.specs.Narrow.{HasCome, come, CanStart}
-use Rattle.cycle_encoding.specs.Coming.{start_needs, word_latency, is_come, are_come, earlier, come_by, AreSound, IsExactUpTo, IsPassed, ComesAreFound, StillCome}
-use Rattle.cycle_encoding.specs.declared.operands.There.TheVariants.{AtEntry}
+use Rattle.cycle_encoding.specs.Narrow.{HasCome, come, CanStart, delay_of}
+use Rattle.cycle_encoding.specs.Coming.{start_needs, delay_at, is_come, are_come, earlier, come_by, AreSound, IsExactUpTo, IsPassed, ComesAreFound, StillCome}
 use Rattle.cycle_encoding.proofs.Members.{find-out, here, later, nothing}
-use Rattle.cycle_encoding.proofs.LackSteps.{need-in, need-out}
-use Rattle.cycle_encoding.proofs.PinnedRows.{word-launch}
+use Rattle.cycle_encoding.proofs.LackSteps.{await-in, await-out}
+use Rattle.cycle_encoding.proofs.PinnedRows.{word-launch, store-sort}
+use Rattle.cycle_encoding.proofs.RowFacts.{got, class-below, at_row}
 
 -- ---- the table, with one class more
 
@@ -97,8 +100,9 @@ module _ (known : List (Option ℕ)) (class n : ℕ) where
   pub come-now : class < length known → is_come (come_by known class n) n class ≡ true
   come-now lt = come-in (come_by known class n) n class new (this lt) (earlier-new (get_or known class None) n)
 
-  pub still-sound : (g : LaunchGraph) (table : Table) → AreSound g table known → HasCome g table class n → AreSound g table (come_by known class n)
-  still-sound g table sound h c m e =
+  pub still-sound : (g : LaunchGraph) (table : Table) (allocation : Allocation) → AreSound g table allocation known
+      → HasCome g table allocation class n → AreSound g table allocation (come_by known class n)
+  still-sound g table allocation sound h c m e =
       elim (cases_eq c class) [
         | inr ne ↦ sound c m (sym (other c ne) ∙ e)
         | inl ec ↦ elim (cases_lt class (length known)) [
@@ -107,104 +111,161 @@ module _ (known : List (Option ℕ)) (class n : ℕ) where
               (let at : Some new ≡ Some m = sym (this lt) ∙ ap (λ x. get_or (come_by known class n) x None) (sym ec) ∙ e in
               let is : new ≡ m = same_Some new m at in
               elim (earlier-is (get_or known class None) n) [
-                | inl now ↦ subst (λ x. HasCome g table x m) (sym ec) (subst (λ x. HasCome g table class x) (sym now ∙ is) h)
-                | inr was ↦ subst (λ x. HasCome g table x m) (sym ec) (sound class m (was ∙ at))
+                | inl now ↦ subst (λ x. HasCome g table allocation x m) (sym ec) (subst (λ x. HasCome g table allocation class x) (sym now ∙ is) h)
+                | inr was ↦ subst (λ x. HasCome g table allocation x m) (sym ec) (sound class m (was ∙ at))
               ])
         ]
       ]
 
+-- what gives a word is no branch
+pub no-branch-word : (i : InstrKind) → gives_word i ≡ true → is_branch i ≡ false
+no-branch-word Beq h = absurd (false≢true h)
+no-branch-word (Operate x) h = refl
+no-branch-word Lda h = refl
+no-branch-word Ldah h = refl
+no-branch-word (Load x) h = refl
+no-branch-word (Store x) h = refl
+
+latency-bounds : (u : Use) (n : ℕ) → (1 ≤ u.latency) × (u.latency ≤ 16) → Some u.latency ≡ Some n → (1 ≤ n) × (n ≤ 16)
+latency-bounds u n b h =
+    let e : u.latency ≡ n = same_Some u.latency n h in
+    let lo = b.0 in
+    let hi = b.1 in
+    (omega arith, omega arith)
+
+give-or-store : (i : InstrKind) → is_branch i ≡ false → (gives_word i ≡ true) ⊎ (is_store i ≡ true)
+give-or-store (Store access) h = inr refl
+give-or-store Beq h = absurd (false≢true (sym h))
+give-or-store i h = inl refl
+
 -- ---- what a row needs
 
-module _ (g : LaunchGraph) (table : Table) where
+module _ (g : LaunchGraph) (table : Table) (allocation : Allocation) where
   -- what has come by a cycle has come by each later one
-  pub come-later : (class t u : ℕ) → HasCome g table class t → t ≤ u → HasCome g table class u
-  come-later _ _ u (come row start t i u0 e w k le needs) lt = come row start u i u0 e w k (omega arith) needs
+  pub come-later : (class t u : ℕ) → HasCome g table allocation class t → t ≤ u → HasCome g table allocation class u
+  come-later _ _ u (come row start t delay i u0 e k d le needs) lt =
+      come row start u delay i u0 e k d (omega arith) needs
 
-  pub are-out : (known : List (Option ℕ)) (t : ℕ) (cs : List ℕ) → are_come known t cs ≡ true → (c : ℕ) → Contains cs c → is_come known t c ≡ true
+  pub are-out : (known : List (Option ℕ)) (t : ℕ) (cs : List ℕ) → are_come known t cs ≡ true → (c : ℕ)
+      → Contains cs c → is_come known t c ≡ true
   are-out known t [] h c k = absurd (nothing c k)
-  are-out known t (d ∷ cs) h c (zero, lt, e) = subst (λ x. is_come known t x ≡ true) e (and_parts (is_come known t d) (are_come known t cs) h).0
-  are-out known t (d ∷ cs) h c (suc i, lt, e) = are-out known t cs (and_parts (is_come known t d) (are_come known t cs) h).1 c (i, (let s : length (d ∷ cs) ≡ suc (length cs) = refl in omega (arith, s, lt)), e)
+  are-out known t (d ∷ cs) h c (zero, lt, e) =
+      subst (λ x. is_come known t x ≡ true) e (and_parts (is_come known t d) (are_come known t cs) h).0
+  are-out known t (d ∷ cs) h c (suc i, lt, e) =
+      are-out known t cs (and_parts (is_come known t d) (are_come known t cs) h).1 c
+      (i, (let s : length (d ∷ cs) ≡ suc (length cs) = refl in omega (arith, s, lt)), e)
 
-  pub are-in : (known : List (Option ℕ)) (t : ℕ) (cs : List ℕ) → ((c : ℕ) → Contains cs c → is_come known t c ≡ true) → are_come known t cs ≡ true
+  pub are-in : (known : List (Option ℕ)) (t : ℕ) (cs : List ℕ)
+      → ((c : ℕ) → Contains cs c → is_come known t c ≡ true) → are_come known t cs ≡ true
   are-in known t [] h = refl
-  are-in known t (d ∷ cs) h = and_from (is_come known t d) (are_come known t cs) (h d (here d cs)) (are-in known t cs (λ c k. h c (later d c cs k)))
+  are-in known t (d ∷ cs) h =
+      and_from (is_come known t d) (are_come known t cs) (h d (here d cs))
+      (are-in known t cs (λ c k. h c (later d c cs k)))
 
   -- a row can start where its classes are found to have come
-  pub can-start : (known : List (Option ℕ)) (t row : ℕ) → AreSound g table known → are_come known t (start_needs g row) ≡ true → CanStart g table row t
-  can-start known t row sound h o need =
-      let m = come-out known t o.class (are-out known t (start_needs g row) h o.class (need-in AtEntry g row o need)) in
-      come-later o.class m.0 t (sound o.class m.0 m.1) m.2
+  pub can-start : (known : List (Option ℕ)) (t row : ℕ) → AreSound g table allocation known
+      → are_come known t (start_needs g allocation row) ≡ true → CanStart g table allocation row t
+  can-start known t row sound h class awaits =
+      let m =
+      come-out known t class
+      (are-out known t (start_needs g allocation row) h class (await-in g allocation row class awaits)) in
+      come-later class m.0 t (sound class m.0 m.1) m.2
 
-  pub start-found : (known : List (Option ℕ)) (t row : ℕ) → ComesAreFound g table known t → CanStart g table row t → are_come known t (start_needs g row) ≡ true
+  pub start-found : (known : List (Option ℕ)) (t row : ℕ) → ComesAreFound g table allocation known t
+      → CanStart g table allocation row t → are_come known t (start_needs g allocation row) ≡ true
   start-found known t row found start =
-      are-in known t (start_needs g row) (λ c k.
-      let o = need-out AtEntry g row c k in
-      subst (λ x. is_come known t x ≡ true) o.2 (found o.0.class (start o.0 o.1)))
+      are-in known t (start_needs g allocation row) (λ c k. found c (start c (await-out g allocation row c k)))
 
-  -- ---- latencies
+  -- ---- delays
 
-  by_word : (i : InstrKind) (n : ℕ) (b : Bool) → gives_word i ≡ b → cond b (latency_of table i) None ≡ Some n → (gives_word i ≡ true) × (latency_of table i ≡ Some n)
-  by_word i n true e h = (e, h)
-  by_word i n false e h = absurd (none-some n h)
+  by_use : (i : InstrKind) (o : Option Use) (n : ℕ) → option_and_then (delay_of i) o ≡ Some n
+      → (u : Use) × (o ≡ Some u) × (delay_of i u ≡ Some n)
+  by_use i None n h = absurd (none-some n h)
+  by_use i (Some u) n h = (u, refl, h)
 
-  by_instr : (o : Option InstrKind) (n : ℕ) → option_and_then (λ i. cond (gives_word i) (latency_of table i) None) o ≡ Some n → (i : InstrKind) × (o ≡ Some i) × (gives_word i ≡ true) × (latency_of table i ≡ Some n)
+  by_instr : (o : Option InstrKind) (n : ℕ)
+      → option_and_then (λ i. option_and_then (delay_of i) (use_of table i)) o ≡ Some n
+      → (i : InstrKind) × (o ≡ Some i) × (option_and_then (delay_of i) (use_of table i) ≡ Some n)
   by_instr None n h = absurd (none-some n h)
-  by_instr (Some i) n h = (let p = by_word i n (gives_word i) refl h in (i, refl, p.0, p.1))
+  by_instr (Some i) n h = (i, refl, h)
 
-  by_use : (o : Option Use) (n : ℕ) → option_map (λ u. u.latency) o ≡ Some n → (u : Use) × (o ≡ Some u) × (u.latency ≡ n)
-  by_use None n h = absurd (none-some n h)
-  by_use (Some u) n h = (u, refl, same_Some u.latency n h)
-
-  pub latency-out : (row n : ℕ) → word_latency g table row ≡ Some n → (i : InstrKind) × (u : Use) × (instr_at g row ≡ Some i) × (gives_word i ≡ true) × (use_of table i ≡ Some u) × (u.latency ≡ n)
-  latency-out row n h =
+  pub delay-out : (row n : ℕ) → delay_at g table row ≡ Some n
+      → (i : InstrKind) × (u : Use) × (instr_at g row ≡ Some i) × (use_of table i ≡ Some u)
+      × (delay_of i u ≡ Some n)
+  delay-out row n h =
       let i = by_instr (instr_at g row) n h in
-      let u = by_use (use_of table i.0) n i.3 in
-      (i.0, u.0, i.1, i.2, u.1, u.2)
+      let u = by_use i.0 (use_of table i.0) n i.2 in
+      (i.0, u.0, i.1, u.1, u.2)
 
-  pub latency-in : (row : ℕ) (i : InstrKind) (u : Use) → instr_at g row ≡ Some i → gives_word i ≡ true → use_of table i ≡ Some u → word_latency g table row ≡ Some u.latency
-  latency-in row i u e w k =
-      ap (option_and_then (λ i. cond (gives_word i) (latency_of table i) None)) e
-      ∙ ap (λ b. cond b (latency_of table i) None) w
-      ∙ ap (option_map (λ (u : Use). u.latency)) k
+  pub delay-in : (row n : ℕ) (i : InstrKind) (u : Use) → instr_at g row ≡ Some i → use_of table i ≡ Some u
+      → delay_of i u ≡ Some n → delay_at g table row ≡ Some n
+  delay-in row n i u e k d =
+      ap (option_and_then (λ i. option_and_then (delay_of i) (use_of table i))) e
+      ∙ ap (option_and_then (delay_of i)) k ∙ d
 
-  pub comes : (row t n : ℕ) → word_latency g table row ≡ Some n → CanStart g table row t → HasCome g table (class_at g row) (t + n)
+  pub comes : (row t n : ℕ) → delay_at g table row ≡ Some n → CanStart g table allocation row t
+      → HasCome g table allocation (class_at g row) (t + n)
   comes row t n h start =
-      let l = latency-out row n h in
-      come row t (t + n) l.0 l.1 l.2 l.3 l.4 (let e = l.5 in omega arith) start
+      let l = delay-out row n h in
+      come row t (t + n) n l.0 l.1 l.2 l.3 l.4 (omega arith) start
+
+  -- what comes is no branch
+  pub no-branch : (i : InstrKind) (u : Use) (n : ℕ) → delay_of i u ≡ Some n → is_branch i ≡ false
+  no-branch Beq u n h = absurd (none-some n h)
+  no-branch (Operate x) u n h = refl
+  no-branch Lda u n h = refl
+  no-branch Ldah u n h = refl
+  no-branch (Load x) u n h = refl
+  no-branch (Store x) u n h = refl
+
+  -- a delay is one of 1 to 16
+  delay-bounds : (i : InstrKind) (u : Use) (n : ℕ) → (1 ≤ u.latency) × (u.latency ≤ 16) → delay_of i u ≡ Some n
+      → (1 ≤ n) × (n ≤ 16)
+  delay-bounds Beq u n b h = absurd (none-some n h)
+  delay-bounds (Store x) u n b h = (let e : 1 ≡ n = same_Some 1 n h in (omega arith, omega arith))
+  delay-bounds (Operate x) u n b h = latency-bounds u n b h
+  delay-bounds Lda u n b h = latency-bounds u n b h
+  delay-bounds Ldah u n b h = latency-bounds u n b h
+  delay-bounds (Load x) u n b h = latency-bounds u n b h
 
   -- ---- a cycle more
 
   module _ (is_table : IsTable table) where
-    -- at least one cycle passes
-    least : (i : InstrKind) (u : Use) → use_of table i ≡ Some u → 1 ≤ u.latency
-    least i u e =
-        let is : IsUse table u = All-contains (IsUse table) table.uses u is_table.uses (find-out (λ (u : Use). kind_number u.instr == kind_number i) table.uses u e).0 in
-        is.latency.0
-
-    -- and no more than 16
-    pub few-latency : (row n : ℕ) → word_latency g table row ≡ Some n → n ≤ 16
-    few-latency row n h =
-        let l = latency-out row n h in
-        let is : IsUse table l.1 = All-contains (IsUse table) table.uses l.1 is_table.uses (find-out (λ (u : Use). kind_number u.instr == kind_number l.0) table.uses l.1 l.4).0 in
-        let most = is.latency.1 in
-        let same = l.5 in
-        omega arith
+    pub delay-few : (row n : ℕ) → delay_at g table row ≡ Some n → (1 ≤ n) × (n ≤ 16)
+    delay-few row n h =
+        let l = delay-out row n h in
+        let is : IsUse table l.1 =
+        All-contains (IsUse table) table.uses l.1 is_table.uses
+        (find-out (λ (u : Use). kind_number u.instr == kind_number l.0) table.uses l.1 l.3).0 in
+        delay-bounds l.0 l.1 n is.latency l.4
 
     -- where all rows passed in the cycles below t, all is found that has come by t
-    pub all-found : (known : List (Option ℕ)) (t : ℕ) → ((s row : ℕ) → s < t → IsPassed g table known s row) → (u class : ℕ) → u ≤ t → HasCome g table class u → is_come known u class ≡ true
-    all-found known t passed _ _ le (come row start u i v e w k until needs) =
-        let one = least i v k in
-        let now = passed start row (omega arith) v.latency (latency-in row i v e w k) needs in
-        let m = come-out known (start + v.latency) (class_at g row) now in
+    pub all-found : (known : List (Option ℕ)) (t : ℕ)
+        → ((s row : ℕ) → s < t → IsPassed g table allocation known s row) → (u class : ℕ) → u ≤ t
+        → HasCome g table allocation class u → is_come known u class ≡ true
+    all-found known t passed _ _ le (come row start u delay i v e k d until needs) =
+        let at = delay-in row delay i v e k d in
+        let one = (delay-few row delay at).0 in
+        let now = passed start row (omega arith) delay at needs in
+        let m = come-out known (start + delay) (class_at g row) now in
         let low = m.2 in
         come-in known u (class_at g row) m.0 m.1 (omega arith)
 
-  -- ---- rows that give words
+  -- ---- rows that give words or memories
 
   -- their classes stand in the tables
-  pub low-class : IsLaunchGraph g → (row : ℕ) (i : InstrKind) → instr_at g row ≡ Some i → gives_word i ≡ true → class_at g row < next_class g.rows
+  pub low-class : IsLaunchGraph g → (row : ℕ) (i : InstrKind) → instr_at g row ≡ Some i → is_branch i ≡ false
+      → class_at g row < next_class g.rows
   low-class well row i e w =
-      (word-launch g well (record { cycle = 0; slot = 0; row = row; to = Pool }) (ap (λ (o : Option InstrKind). option_map_or gives_word o false) e ∙ w)).1
+      let l : Launch = record { cycle = 0; slot = 0; row = row; to = Pool } in
+      elim (give-or-store i w) [
+        | inl t ↦ (word-launch g well l (ap (λ (o : Option InstrKind). option_map_or gives_word o false) e ∙ t)).1
+        | inr t ↦ (
+            let r = store-sort g l (ap (λ (o : Option InstrKind). option_map_or is_store o false) e ∙ t) in
+            let b = class-below g r.0 (got g.rows row r.0 r.1) in
+            let s = at_row g row r.0 r.1 in
+            omega arith)
+      ]
 
 -- ---- the steps of the code
 
@@ -223,25 +284,26 @@ are-not known t (x ∷ cs) zero d lt h = sym (and_left (is_come known t x) (are_
 are-not known t (x ∷ cs) (suc i) d lt h =
     sym (and_right (is_come known t x) (are_come known t cs) (sym (are-not known t cs i d (let s : length (x ∷ cs) ≡ suc (length cs) = refl in omega (arith, s)) h)))
 
-module _ (g : LaunchGraph) (table : Table) (known : List (Option ℕ)) (cycle row n : ℕ) (needs : List ℕ) (en : needs ≡ start_needs g row) (w : word_latency g table row ≡ Some n) where
-  ready : are_come known cycle needs ≡ true → are_come known cycle (start_needs g row) ≡ true
+module _ (g : LaunchGraph) (table : Table) (allocation : Allocation) (known : List (Option ℕ)) (cycle row n : ℕ)
+    (needs : List ℕ) (en : needs ≡ start_needs g allocation row) (w : delay_at g table row ≡ Some n) where
+  ready : are_come known cycle needs ≡ true → are_come known cycle (start_needs g allocation row) ≡ true
   ready h = ap (are_come known cycle) (sym en) ∙ h
 
-  pub not-ready : ComesAreFound g table known cycle → are_come known cycle needs ≡ false → IsPassed g table known cycle row
-  not-ready found h m e start = absurd (false≢true (sym h ∙ ap (are_come known cycle) en ∙ start-found g table known cycle row found start))
+  pub not-ready : ComesAreFound g table allocation known cycle → are_come known cycle needs ≡ false → IsPassed g table allocation known cycle row
+  not-ready found h m e start = absurd (false≢true (sym h ∙ ap (are_come known cycle) en ∙ start-found g table allocation known cycle row found start))
 
-  module _ (class m : ℕ) (new : List (Option ℕ)) (ec : class ≡ class_at g row) (em : m ≡ cycle + n) (e : new ≡ come_by known class m) (sound : AreSound g table known) (h : are_come known cycle needs ≡ true) where
-    now : HasCome g table class m
-    now = subst (λ c. HasCome g table c m) (sym ec) (subst (HasCome g table (class_at g row)) (sym em) (comes g table row cycle n w (can-start g table known cycle row sound (ready h))))
+  module _ (class m : ℕ) (new : List (Option ℕ)) (ec : class ≡ class_at g row) (em : m ≡ cycle + n) (e : new ≡ come_by known class m) (sound : AreSound g table allocation known) (h : are_come known cycle needs ≡ true) where
+    now : HasCome g table allocation class m
+    now = subst (λ c. HasCome g table allocation c m) (sym ec) (subst (HasCome g table allocation (class_at g row)) (sym em) (comes g table allocation row cycle n w (can-start g table allocation known cycle row sound (ready h))))
 
-    pub row-sound : AreSound g table new
-    row-sound = subst (AreSound g table) (sym e) (still-sound known class m g table sound now)
+    pub row-sound : AreSound g table allocation new
+    row-sound = subst (AreSound g table allocation) (sym e) (still-sound known class m g table allocation sound now)
 
-    pub row-passed : IsLaunchGraph g → length known ≡ next_class g.rows → IsPassed g table new cycle row
+    pub row-passed : IsLaunchGraph g → length known ≡ next_class g.rows → IsPassed g table allocation new cycle row
     row-passed well long j ej start =
         let same : n ≡ j = same_Some n j (sym w ∙ ej) in
-        let l = latency-out g table row n w in
-        let bound : class < length known = (let b = low-class g table well row l.0 l.2 l.3 in omega arith) in
+        let l = delay-out g table allocation row n w in
+        let bound : class < length known = (let b = low-class g table allocation well row l.0 l.2 (no-branch g table allocation l.0 l.1 n l.4) in omega arith) in
         let at : is_come (come_by known class m) m class ≡ true = come-now known class m bound in
         let until : m ≡ cycle + j = omega arith in
         ap (λ (xs : List (Option ℕ)). is_come xs (cycle + j) (class_at g row)) e
@@ -255,33 +317,33 @@ nones a zero i = refl
 nones a (suc n) zero = refl
 nones a (suc n) (suc i) = nones (a + 1) n i
 
-pub none-yet : (g : LaunchGraph) (table : Table) (n : ℕ) (known : List (Option ℕ)) → known ≡ map (λ _. None) (range_with_len 0 n) → AreSound g table known
-none-yet g table n known e class m h =
+pub none-yet : (g : LaunchGraph) (table : Table) (allocation : Allocation) (n : ℕ) (known : List (Option ℕ)) → known ≡ map (λ _. None) (range_with_len 0 n) → AreSound g table allocation known
+none-yet g table allocation n known e class m h =
     absurd (none-some m (sym (nones 0 n class) ∙ ap (λ (xs : List (Option ℕ)). get_or xs class None) (sym e) ∙ h))
 
 -- ---- one row more, and one cycle more
 
-module _ (g : LaunchGraph) (table : Table) (old new : List (Option ℕ)) (still-come : StillCome old new) where
-  kept : (cycle row : ℕ) → IsPassed g table old cycle row → IsPassed g table new cycle row
+module _ (g : LaunchGraph) (table : Table) (allocation : Allocation) (old new : List (Option ℕ)) (still-come : StillCome old new) where
+  kept : (cycle row : ℕ) → IsPassed g table allocation old cycle row → IsPassed g table allocation new cycle row
   kept cycle row p n e start = still-come (cycle + n) (class_at g row) (p n e start)
 
-  pub one-more-row : (cycle row : ℕ) → IsPassed g table new cycle row → ((r : ℕ) → r < row → IsPassed g table old cycle r) → (r : ℕ) → r < row + 1 → IsPassed g table new cycle r
+  pub one-more-row : (cycle row : ℕ) → IsPassed g table allocation new cycle row → ((r : ℕ) → r < row → IsPassed g table allocation old cycle r) → (r : ℕ) → r < row + 1 → IsPassed g table allocation new cycle r
   one-more-row cycle row this-row before r lt =
       elim (cases_eq r row) [
-        | inl e ↦ subst (IsPassed g table new cycle) (sym e) this-row
+        | inl e ↦ subst (IsPassed g table allocation new cycle) (sym e) this-row
         | inr ne ↦ kept cycle r (before r (omega arith))
       ]
 
-  pub one-more-cycle : (cycle : ℕ) → ((row : ℕ) → IsPassed g table new cycle row) → ((s row : ℕ) → s < cycle → IsPassed g table old s row) → (s row : ℕ) → s < cycle + 1 → IsPassed g table new s row
+  pub one-more-cycle : (cycle : ℕ) → ((row : ℕ) → IsPassed g table allocation new cycle row) → ((s row : ℕ) → s < cycle → IsPassed g table allocation old s row) → (s row : ℕ) → s < cycle + 1 → IsPassed g table allocation new s row
   one-more-cycle cycle now before s row lt =
       elim (cases_eq s cycle) [
-        | inl e ↦ subst (λ s. IsPassed g table new s row) (sym e) (now row)
+        | inl e ↦ subst (λ s. IsPassed g table allocation new s row) (sym e) (now row)
         | inr ne ↦ kept s row (before s row (omega arith))
       ]
 
 -- where all rows passed in the cycles up to t, it is found exactly what has come by them
-pub exact : (g : LaunchGraph) (table : Table) → IsTable table → (known : List (Option ℕ)) (t : ℕ) → AreSound g table known → ((s row : ℕ) → s < t + 1 → IsPassed g table known s row) → IsExactUpTo g table known t
-exact g table is_table known t sound passed u class le = (
-  (λ h. let m = come-out known u class h in come-later g table class m.0 u (sound class m.0 m.1) m.2),
-  (λ h. all-found g table is_table known (t + 1) passed u class (omega arith) h),
+pub exact : (g : LaunchGraph) (table : Table) (allocation : Allocation) → IsTable table → (known : List (Option ℕ)) (t : ℕ) → AreSound g table allocation known → ((s row : ℕ) → s < t + 1 → IsPassed g table allocation known s row) → IsExactUpTo g table allocation known t
+exact g table allocation is_table known t sound passed u class le = (
+  (λ h. let m = come-out known u class h in come-later g table allocation class m.0 u (sound class m.0 m.1) m.2),
+  (λ h. all-found g table allocation is_table known (t + 1) passed u class (omega arith) h),
 )

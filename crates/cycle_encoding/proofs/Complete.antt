@@ -12,7 +12,7 @@ use Rattle.machine_table.specs.Tables.{IsTable, cluster_of}
 use Rattle.graph_meaning.specs.Graphs.{is_memory_name, is_zero_class, is_input_register, IsPin}
 use Rattle.graph_meaning.specs.WellFormed.{IsLaunchGraph, next_class}
 use Rattle.schedule_meaning.specs.Launches.{goes_to, pin_of, writes_pin, overwrites, spoils, collides, reads_until, HasInput, IsUnwritten, IsZero, operands_at, ready_in, IsFree, IsReadable, Gives, gives}
-use Rattle.schedule_meaning.specs.Fits.{CanLaunch, CanGo, CanRead, Collide, EndsBy, IsInSomeRegister}
+use Rattle.schedule_meaning.specs.Fits.{CanLaunch, CanRead, Collide, EndsBy, IsInSomeRegister}
 use Rattle.machine_table.specs.declared.tables.Table.{Table}
 use Rattle.graph_meaning.specs.declared.graphs.LaunchGraph.{LaunchGraph}
 use Rattle.graph_meaning.specs.declared.graphs.SetClass.{SetClass}
@@ -20,6 +20,8 @@ use Rattle.graph_meaning.specs.declared.graphs.InputClass.{InputClass}
 use Rattle.schedule_meaning.specs.declared.schedules.Operand.{Operand}
 use Rattle.schedule_meaning.specs.declared.schedules.To.{To}
 use Rattle.schedule_meaning.specs.declared.schedules.To.TheVariants.{Pool, Set}
+use Rattle.schedule_meaning.specs.declared.schedules.Allocation.TheVariants.{Block}
+use Rattle.schedule_meaning.specs.declared.schedules.Allocation.{Allocation}
 use Rattle.schedule_meaning.specs.declared.schedules.Launch.{Launch}
 use Rattle.schedule_meaning.proofs.Rules.{at_pair, in_list}
 use Rattle.schedule_meaning.proofs.Pins.{pinned_from, written_from, writes_from, goes_from}
@@ -30,7 +32,7 @@ use Rattle.cycle_encoding.specs.Families.{is_at, is_free, is_seen, makes}
 use Rattle.cycle_encoding.specs.Variables.{all_launches, made_classes, is_safe, is_pin, is_overwriting, overwriting_sets, set_numbers, all_overwritten, Overwritten}
 use Rattle.cycle_encoding.specs.Families.{is_made, is_made_target, is_input_at, takes_input, reads_own, is_needed, is_lost}
 use Rattle.cycle_encoding.specs.CycleFormula.{wide}
-use Rattle.cycle_encoding.specs.CycleRules.{KeepsCycleRules, IsFreeReached, WasOverwritten}
+use Rattle.cycle_encoding.specs.CycleRules.{MayGo, KeepsCycleRules, IsFreeReached, WasOverwritten}
 use Rattle.cycle_encoding.proofs.Tests.{some_of, some_in, any_from, All-to_filter, zero-from, free-from, gives-from}
 use Rattle.cycle_encoding.proofs.PinnedTests.{at-from, register-from, pin-is}
 use Rattle.cycle_encoding.proofs.Members.{NoTwice, filter-in, filter-out, filter-once, range-in, All-from_members, few-among}
@@ -95,8 +97,8 @@ among-from : (ls : List Launch) (l : Launch) → Contains ls l → among ls l �
 among-from ls l h = some_in (same l) ls l h (same-itself l)
 
 -- the list has a variable for each of these launches, none twice, and for all that they have to see
-pub record ServesPins (g : LaunchGraph) (table : Table) (k : ℕ) (e : Listed) (ls : List Launch) : Type 0 where
-  pub listed : All (IsListed g table k) e.launches
+pub record ServesPins (g : LaunchGraph) (table : Table) (allocation : Allocation) (k : ℕ) (e : Listed) (ls : List Launch) : Type 0 where
+  pub listed : All (IsListed g table allocation k) e.launches
   pub once : NoTwice e.launches
   pub members : (l : Launch) → Contains ls l → Contains e.launches l
   pub seen : (l m : Launch) (o : Operand) → Contains ls l → Contains (operands_at g l.row) o → is_made g o ≡ true → Contains ls m → Gives g o.class m → Contains e.seen (record { class = o.class; cluster = cluster_of table l.slot; cycle = l.cycle })
@@ -113,15 +115,15 @@ pinned_made_class g well o l h gave =
     (and_from (not (is_safe g o.class)) (not (is_zero_class g o.class)) p.1 (not_from_false (is_zero_class g o.class) (false_from_ne_true (is_zero_class g o.class) zero_free))))
 
 -- the list of all launches that end by k serves launches that keep the rules
-pub all-serve : (g : LaunchGraph) (table : Table) (k : ℕ) (ls : List Launch) → IsTable table → IsLaunchGraph g → KeepsCycleRules g table k ls → ServesPins g table k (wide g table k) ls
+pub all-serve : (g : LaunchGraph) (table : Table) (k : ℕ) (ls : List Launch) → IsTable table → IsLaunchGraph g → KeepsCycleRules g table Block k ls → ServesPins g table Block k (wide g table k) ls
 all-serve g table k ls is_table well rules =
-    let member : (l : Launch) → Contains ls l → Contains (all_launches g table k) l = λ l h. listed-in g table k is_table l (All-contains (CanLaunch g table) ls l rules.rows h) (All-contains (CanGo g) ls l rules.destinations h) (All-contains (EndsBy g table k) ls l rules.in_time h) in
+    let member : (l : Launch) → Contains ls l → Contains (all_launches g table Block k) l = λ l h. listed-in g table Block k is_table l (All-contains (CanLaunch g table) ls l rules.rows h) (All-contains (MayGo g Block) ls l rules.destinations h) (All-contains (EndsBy g table k) ls l rules.in_time h) in
     record {
-      listed = listed-all g table k is_table;
-      once = launches-once g table k;
+      listed = listed-all g table Block k is_table;
+      once = launches-once g table Block k;
       members = member;
       seen = λ l m o hl ho t hm gave.
-          let ok = listed-one g table k is_table l (member l hl) in
+          let ok = listed-one g table Block k is_table l (member l hl) in
           seen-in g table k (made_classes g) o.class (cluster_of table l.slot) l.cycle (pinned_made_class g well o m t gave) (cluster-in g table k is_table l.slot ok.slot) ok.early;
     }
 
@@ -150,7 +152,8 @@ module _ (g : LaunchGraph) (table : Table) (k : ℕ) (ls : List Launch) (e : Lis
   abbrev pub seen : List Seen
   seen = filter seen_now e.seen
 
-  module _ (serves : ServesPins g table k e ls) (rules : KeepsCycleRules g table k ls) where
+  module _ {allocation : Allocation} (serves : ServesPins g table allocation k e ls)
+      (rules : KeepsCycleRules g table allocation k ls) where
     abbrev S : List Launch
     S = launched
 
@@ -166,8 +169,8 @@ module _ (g : LaunchGraph) (table : Table) (k : ℕ) (ls : List Launch) (e : Lis
     pub launched-once : NoTwice S
     launched-once = filter-once (among ls) e.launches serves.once
 
-    is_listed : (l : Launch) → Contains S l → IsListed g table k l
-    is_listed l h = All-contains (IsListed g table k) e.launches l serves.listed (filter-out (among ls) e.launches l h).0
+    is_listed : (l : Launch) → Contains S l → IsListed g table allocation k l
+    is_listed l h = All-contains (IsListed g table allocation k) e.launches l serves.listed (filter-out (among ls) e.launches l h).0
 
     -- a test that some launch passes
     pass : (test : Launch → Bool) → list_any test ls ≡ true → list_any test S ≡ true
@@ -277,7 +280,7 @@ module _ (g : LaunchGraph) (table : Table) (k : ℕ) (ls : List Launch) (e : Lis
           | inr (inr lt) ↦ absurd (at_pair (λ l m. ¬ Collide l m) ls rules.apart cb.0 ca.0 b a lt at_b at_a (sym cycles, sym slots))
         ]
 
-    until_low : (l : Launch) → IsListed g table k l → reads_until g l ≤ k
+    until_low : (l : Launch) → IsListed g table allocation k l → reads_until g l ≤ k
     until_low l ok =
         elim (cases_Bool (overwrites g l)) [
           | inl t ↦ (let e : reads_until g l ≡ l.cycle + 1 = ap (λ b. if b then l.cycle + 1 else l.cycle) t in let b = ok.early in omega arith)

@@ -7,6 +7,7 @@ use Rattle.cnf_core.specs.Formula.{Satisfies}
 use Rattle.cnf_core.specs.Counter.{Extends, HasExtension}
 use Rattle.machine_table.specs.declared.tables.Table.{Table}
 use Rattle.graph_meaning.specs.declared.graphs.LaunchGraph.{LaunchGraph}
+use Rattle.schedule_meaning.specs.declared.schedules.Allocation.{Allocation}
 use Rattle.schedule_meaning.specs.declared.schedules.Launch.{Launch}
 use Rattle.cycle_encoding.specs.Shapes.{shown, counters}
 use Rattle.cycle_encoding.specs.Families.{is_at, seen_clauses, slot_groups}
@@ -67,7 +68,8 @@ record Made (g : LaunchGraph) (table : Table) (k : ℕ) (ls : List Launch) (e : 
   not_over_is : hidden values (overwritten_vars g table k e) ≡ not_over g table k ls e
   slots : Satisfies values (counters (before_counters g table k e) 1 (slot_groups table k (launch_vars e)))
 
-module _ (exact : AreExact) (g : LaunchGraph) (table : Table) (k : ℕ) (e : Listed) (ls : List Launch) (serves : ServesPins g table k e ls) (rules : KeepsCycleRules g table k ls) where
+module _ (exact : AreExact) (g : LaunchGraph) (table : Table) (k : ℕ) (e : Listed) (ls : List Launch) {allocation : Allocation}
+    (serves : ServesPins g table allocation k e ls) (rules : KeepsCycleRules g table allocation k ls) where
   made : Made g table k ls e
   made =
       let n1 = length e.launches in

@@ -16,6 +16,7 @@ use Rattle.graph_meaning.specs.declared.graphs.LaunchGraph.{LaunchGraph}
 use Rattle.graph_meaning.specs.declared.graphs.SetClass.{SetClass}
 use Rattle.schedule_meaning.specs.declared.schedules.To.{To}
 use Rattle.schedule_meaning.specs.declared.schedules.Launch.{Launch}
+use Rattle.cycle_encoding.specs.CycleFormula.{allocation_in}
 use Rattle.cycle_encoding.specs.Shapes.{vars_of, negated, counters}
 use Rattle.cycle_encoding.specs.Variables.{slots_of, clusters_of, all_seen, Seen}
 use Rattle.cycle_encoding.specs.Families.{is_at, makes, seen_clauses, slot_row, slot_groups}
@@ -38,22 +39,22 @@ at row slot cycle to = record { cycle = cycle; slot = slot; row = row; to = to }
 module _ (g : LaunchGraph) (table : Table) (k : ℕ) (s : Scope) where
   -- a sum over the launches of a row, use by use
   module _ (row : ℕ) (F : Launch → ℕ) (C : ℕ → Use → List To → ℕ) (each : (n : ℕ) (u : Use) (tos : List To) → sum_by F (use_launches table k row n tos u) ≡ C n u tos) where
-    by_first : (i : InstrKind) (u : Use) (o : Option ℕ) → sum_by F (option_map_or (λ n. use_launches table k row n (destinations g i row) u) o []) ≡ option_map_or (λ n. C n u (destinations g i row)) o 0
+    by_first : (i : InstrKind) (u : Use) (o : Option ℕ) → sum_by F (option_map_or (λ n. use_launches table k row n (destinations g (allocation_in s) i row) u) o []) ≡ option_map_or (λ n. C n u (destinations g (allocation_in s) i row)) o 0
     by_first i u None = refl
-    by_first i u (Some n) = each n u (destinations g i row)
+    by_first i u (Some n) = each n u (destinations g (allocation_in s) i row)
 
-    by_use : (i : InstrKind) (first : Option ℕ) (u : Option Use) → sum_by F (option_map_or (λ u. option_map_or (λ n. use_launches table k row n (destinations g i row) u) first []) u []) ≡ option_map_or (λ u. option_map_or (λ n. C n u (destinations g i row)) first 0) u 0
+    by_use : (i : InstrKind) (first : Option ℕ) (u : Option Use) → sum_by F (option_map_or (λ u. option_map_or (λ n. use_launches table k row n (destinations g (allocation_in s) i row) u) first []) u []) ≡ option_map_or (λ u. option_map_or (λ n. C n u (destinations g (allocation_in s) i row)) first 0) u 0
     by_use i first None = refl
     by_use i first (Some u) = by_first i u first
 
     abbrev of_instr : Option ℕ → InstrKind → ℕ
-    of_instr first i = option_map_or (λ u. option_map_or (λ n. C n u (destinations g i row)) first 0) (use_of table i) 0
+    of_instr first i = option_map_or (λ u. option_map_or (λ n. C n u (destinations g (allocation_in s) i row)) first 0) (use_of table i) 0
 
-    by_instr : (first : Option ℕ) (o : Option InstrKind) → sum_by F (option_map_or (λ i. option_map_or (λ u. option_map_or (λ n. use_launches table k row n (destinations g i row) u) first []) (use_of table i) []) o []) ≡ option_map_or (of_instr first) o 0
+    by_instr : (first : Option ℕ) (o : Option InstrKind) → sum_by F (option_map_or (λ i. option_map_or (λ u. option_map_or (λ n. use_launches table k row n (destinations g (allocation_in s) i row) u) first []) (use_of table i) []) o []) ≡ option_map_or (of_instr first) o 0
     by_instr first None = refl
     by_instr first (Some i) = by_use i first (use_of table i)
 
-    pub by_row : sum_by F (row_launches g table k (first_cycle_in s row) row) ≡ option_map_or (of_instr (first_cycle_in s row)) (instr_at g row) 0
+    pub by_row : sum_by F (row_launches g table (allocation_in s) k (first_cycle_in s row) row) ≡ option_map_or (of_instr (first_cycle_in s row)) (instr_at g row) 0
     by_row = by_instr (first_cycle_in s row) (instr_at g row)
 
   pub use_sum : (row n : ℕ) (tos : List To) (u : Use) (F : Launch → ℕ) → sum_by F (use_launches table k row n tos u) ≡ sum_by (λ x. sum_by (λ t. sum_by (λ to. F (at row x t to)) tos) (range_with_len n (cycles_of k n u))) (slots_of table u)
@@ -83,19 +84,19 @@ module _ (g : LaunchGraph) (table : Table) (k : ℕ) (s : Scope) where
   times_use c D first None = (let z : 0 ≡ 0 * c = omega arith in z)
   times_use c D first (Some u) = times_first c (λ n. D n u) first
 
-  pub times_instr : (row : ℕ) (f : To → ℕ) (D : ℕ → Use → ℕ) (first : Option ℕ) (o : Option InstrKind) → option_map_or (λ i. option_map_or (λ u. option_map_or (λ n. D n u * sum_by f (destinations g i row)) first 0) (use_of table i) 0) o 0 ≡ option_map_or (λ u. option_map_or (λ n. D n u) first 0) (option_and_then (use_of table) o) 0 * sum_by f (option_map_or (λ i. destinations g i row) o [])
+  pub times_instr : (row : ℕ) (f : To → ℕ) (D : ℕ → Use → ℕ) (first : Option ℕ) (o : Option InstrKind) → option_map_or (λ i. option_map_or (λ u. option_map_or (λ n. D n u * sum_by f (destinations g (allocation_in s) i row)) first 0) (use_of table i) 0) o 0 ≡ option_map_or (λ u. option_map_or (λ n. D n u) first 0) (option_and_then (use_of table) o) 0 * sum_by f (option_map_or (λ i. destinations g (allocation_in s) i row) o [])
   times_instr row f D first None = (let z : 0 ≡ 0 * sum_by f [] = omega arith in z)
-  times_instr row f D first (Some i) = times_use (sum_by f (destinations g i row)) D first (use_of table i)
+  times_instr row f D first (Some i) = times_use (sum_by f (destinations g (allocation_in s) i row)) D first (use_of table i)
 
-  pub sum-destined : (f : ℕ → To → ℕ) → sum_by (λ (l : Launch). f l.row l.to) (launches_from g table k (first_cycle_in s)) ≡ sum_destined g table k s f
+  pub sum-destined : (f : ℕ → To → ℕ) → sum_by (λ (l : Launch). f l.row l.to) (launches_from g table (allocation_in s) k (first_cycle_in s)) ≡ sum_destined g table k s f
   sum-destined f =
-      sum-flat (λ (l : Launch). f l.row l.to) (λ row. row_launches g table k (first_cycle_in s row) row) (row_numbers g)
-      ∙ sum-same (λ row. sum_by (λ (l : Launch). f l.row l.to) (row_launches g table k (first_cycle_in s row) row)) (λ row. row_count g table k s row * sum_by (f row) (row_destinations g row)) (row_numbers g)
+      sum-flat (λ (l : Launch). f l.row l.to) (λ row. row_launches g table (allocation_in s) k (first_cycle_in s row) row) (row_numbers g)
+      ∙ sum-same (λ row. sum_by (λ (l : Launch). f l.row l.to) (row_launches g table (allocation_in s) k (first_cycle_in s row) row)) (λ row. row_count g table k s row * sum_by (f row) (row_destinations g (allocation_in s) row)) (row_numbers g)
       (λ row. by_row row (λ l. f l.row l.to) (λ n u tos. length (slots_of table u) * cycles_of k n u * sum_by (f row) tos) (use_row f row)
       ∙ times_instr row (f row) (λ n u. length (slots_of table u) * cycles_of k n u) (first_cycle_in s row) (instr_at g row))
 
-  pub destined-count : length (launches_from g table k (first_cycle_in s)) ≡ sum_destined g table k s (λ row to. 1)
-  destined-count = size-ones (launches_from g table k (first_cycle_in s)) ∙ sum-destined (λ row to. 1)
+  pub destined-count : length (launches_from g table (allocation_in s) k (first_cycle_in s)) ≡ sum_destined g table k s (λ row to. 1)
+  destined-count = size-ones (launches_from g table (allocation_in s) k (first_cycle_in s)) ∙ sum-destined (λ row to. 1)
 
   -- ---- a slot and a cycle
 
@@ -130,14 +131,14 @@ module _ (g : LaunchGraph) (table : Table) (k : ℕ) (s : Scope) where
   has_use c D first None = (let z : 0 ≡ 0 * c = omega arith in z)
   has_use c D first (Some u) = has_first c (λ n. D n u) first
 
-  has_instr : (row : ℕ) (D : ℕ → Use → Bool) (first : Option ℕ) (o : Option InstrKind) → option_map_or (λ i. option_map_or (λ u. option_map_or (λ n. one_if (D n u) * length (destinations g i row)) first 0) (use_of table i) 0) o 0 ≡ one_if (option_map_or (λ u. option_map_or (λ n. D n u) first false) (option_and_then (use_of table) o) false) * length (option_map_or (λ i. destinations g i row) o [])
+  has_instr : (row : ℕ) (D : ℕ → Use → Bool) (first : Option ℕ) (o : Option InstrKind) → option_map_or (λ i. option_map_or (λ u. option_map_or (λ n. one_if (D n u) * length (destinations g (allocation_in s) i row)) first 0) (use_of table i) 0) o 0 ≡ one_if (option_map_or (λ u. option_map_or (λ n. D n u) first false) (option_and_then (use_of table) o) false) * length (option_map_or (λ i. destinations g (allocation_in s) i row) o [])
   has_instr row D first None = (let z : 0 ≡ 0 * length {A = To} [] = omega arith in z)
-  has_instr row D first (Some i) = has_use (length (destinations g i row)) D first (use_of table i)
+  has_instr row D first (Some i) = has_use (length (destinations g (allocation_in s) i row)) D first (use_of table i)
 
-  pub destined-at : (x t : ℕ) → x < length table.slots → count_by (is_at x t) (launches_from g table k (first_cycle_in s)) ≡ destined_at g table k s x t
+  pub destined-at : (x t : ℕ) → x < length table.slots → count_by (is_at x t) (launches_from g table (allocation_in s) k (first_cycle_in s)) ≡ destined_at g table k s x t
   destined-at x t lt =
-      sum-flat (λ l. one_if (is_at x t l)) (λ row. row_launches g table k (first_cycle_in s row) row) (row_numbers g)
-      ∙ sum-same (λ row. count_by (is_at x t) (row_launches g table k (first_cycle_in s row) row)) (λ row. one_if (row_has g table k s x t row) * length (row_destinations g row)) (row_numbers g)
+      sum-flat (λ l. one_if (is_at x t l)) (λ row. row_launches g table (allocation_in s) k (first_cycle_in s row) row) (row_numbers g)
+      ∙ sum-same (λ row. count_by (is_at x t) (row_launches g table (allocation_in s) k (first_cycle_in s row) row)) (λ row. one_if (row_has g table k s x t row) * length (row_destinations g (allocation_in s) row)) (row_numbers g)
       (λ row. by_row row (λ l. one_if (is_at x t l)) (λ n u tos. one_if (list_any (λ r. r == x) u.slots && can_begin k n u t) * length tos) (use_at x t row lt)
       ∙ has_instr row (λ n u. list_any (λ r. r == x) u.slots && can_begin k n u t) (first_cycle_in s row) (instr_at g row))
 
@@ -167,7 +168,7 @@ module _ (g : LaunchGraph) (table : Table) (k : ℕ) (s : Scope) where
       ∙ same-in (λ x. sum_by (λ (c : List Lit). h (length c)) (slot_row x k xs)) (λ x. sum_by (λ t. h (destined_at g table k s x t)) (range_with_len 0 k)) (range_with_len 0 (length table.slots)) (λ x hs.
       let lt : x < length table.slots = (let b = (range-out 0 (length table.slots) x hs).1 in omega arith) in
       sum-map (λ (c : List Lit). h (length c)) (λ t. vars_of (is_at x t) xs) (range_with_len 0 k)
-      ∙ sum-same (λ t. h (length (vars_of (is_at x t) xs))) (λ t. h (destined_at g table k s x t)) (range_with_len 0 k) (λ t. ap h (size-vars (is_at x t) 0 (launches_from g table k (first_cycle_in s)) ∙ destined-at x t lt)))
+      ∙ sum-same (λ t. h (length (vars_of (is_at x t) xs))) (λ t. h (destined_at g table k s x t)) (range_with_len 0 k) (λ t. ap h (size-vars (is_at x t) 0 (launches_from g table (allocation_in s) k (first_cycle_in s)) ∙ destined-at x t lt)))
 
   -- ---- the part of the cycles
 
@@ -193,8 +194,8 @@ module _ (g : LaunchGraph) (table : Table) (k : ℕ) (s : Scope) where
         let c4 = counters (before_counters g table k e) 1 (slot_groups table k xs) in
         let l1 : length c1 ≡ count_by (is_made_target g) g.sets = size-map (λ (s : SetClass). vars_of (gives g s.class) xs ++ negated (is_lost g s.class k) vs) (filter (is_made_target g) g.sets) ∙ length-filter (is_made_target g) g.sets in
         let l2 : length c2 ≡ sum_destined g table k s (λ row to. count_by (needs_clause g to) (operands_at g row)) =
-        size-implied (λ (l : Launch). map (operand_clause g table ds vs l) (filter (is_needed g l) (operands_at g l.row))) 0 (launches_from g table k (first_cycle_in s))
-        ∙ sum-same (λ (l : Launch). length (map (operand_clause g table ds vs l) (filter (is_needed g l) (operands_at g l.row)))) (λ l. count_by (needs_clause g l.to) (operands_at g l.row)) (launches_from g table k (first_cycle_in s)) (λ l. size-map (operand_clause g table ds vs l) (filter (is_needed g l) (operands_at g l.row)) ∙ length-filter (is_needed g l) (operands_at g l.row))
+        size-implied (λ (l : Launch). map (operand_clause g table ds vs l) (filter (is_needed g l) (operands_at g l.row))) 0 (launches_from g table (allocation_in s) k (first_cycle_in s))
+        ∙ sum-same (λ (l : Launch). length (map (operand_clause g table ds vs l) (filter (is_needed g l) (operands_at g l.row)))) (λ l. count_by (needs_clause g l.to) (operands_at g l.row)) (launches_from g table (allocation_in s) k (first_cycle_in s)) (λ l. size-map (operand_clause g table ds vs l) (filter (is_needed g l) (operands_at g l.row)) ∙ length-filter (is_needed g l) (operands_at g l.row))
         ∙ sum-destined (λ row to. count_by (needs_clause g to) (operands_at g row)) in
         let l3 : length c3 ≡ seen_count g table k s = size-implied (λ d. vars_of (makes g table d) xs ∷ []) (length e.launches) e.seen ∙ sym (size-ones e.seen) ∙ seen-size in
         let l4 : length c4 ≡ sum_places g table k s (λ x t. at_most_size 1 (destined_at g table k s x t)) = counters-size 1 size (before_counters g table k e) (slot_groups table k xs) ∙ places (at_most_size 1) in

@@ -9,6 +9,7 @@ use Rattle.schedule_meaning.specs.Fits.{Collide}
 use Rattle.machine_table.specs.declared.tables.Table.{Table}
 use Rattle.graph_meaning.specs.WellFormed.{IsLaunchGraph}
 use Rattle.graph_meaning.specs.declared.graphs.LaunchGraph.{LaunchGraph}
+use Rattle.schedule_meaning.specs.declared.schedules.Allocation.{Allocation}
 use Rattle.schedule_meaning.specs.declared.schedules.Launch.{Launch}
 use Rattle.cycle_encoding.specs.Shapes.{vars_of, shown, counters}
 use Rattle.cycle_encoding.specs.Families.{is_at, seen_clauses, slot_groups}
@@ -59,15 +60,15 @@ module _ (g : LaunchGraph) (table : Table) (k : ℕ) (e : Listed) where
   clash v = one-side v (before_overwritten e) (all_overwritten g k) (over-once g table k)
 
   -- satisfied values show launches of which no two collide
-  pub pinned_shown_apart : AreExact → All (IsListed g table k) e.launches → (v : ℕ → Bool) → Satisfies v (cycle_part g table k e) → AllPairs (λ l m. ¬ Collide l m) (shown v xs)
-  pinned_shown_apart exact listed v h =
+  pub pinned_shown_apart : (allocation : Allocation) → AreExact → All (IsListed g table allocation k) e.launches → (v : ℕ → Bool) → Satisfies v (cycle_part g table k e) → AllPairs (λ l m. ¬ Collide l m) (shown v xs)
+  pinned_shown_apart allocation exact listed v h =
       let before = target_clauses g k xs (overwritten_vars g table k e) ++ operand_clauses g table xs (seen_vars e) (overwritten_vars g table k e) ++ seen_clauses g table xs (seen_vars e) in
       let c4 = counters (before_counters g table k e) 1 (slot_groups table k xs) in
       let few = slots-few v (counters-out exact 1 (before_counters g table k e) (before_counters g table k e) v (slot_groups table k xs) (omega arith) counted-before (right v before c4 h)) in
-      apart g table k (shown v xs) (all_shown v (IsListed g table k) 0 e.launches listed) few
+      apart g table allocation k (shown v xs) (all_shown v (IsListed g table allocation k) 0 e.launches listed) few
 
-  pub pinned_shown_keep : AreExact → IsLaunchGraph g → All (IsListed g table k) e.launches → (v : ℕ → Bool) → Satisfies v (cycle_part g table k e) → ArePinsKept g k (shown v xs) (shown v (overwritten_vars g table k e)) → KeepsCycleRules g table k (shown v xs)
-  pinned_shown_keep exact graph listed v h pins =
+  pub pinned_shown_keep : (allocation : Allocation) → AreExact → IsLaunchGraph g → All (IsListed g table allocation k) e.launches → (v : ℕ → Bool) → Satisfies v (cycle_part g table k e) → ArePinsKept g k (shown v xs) (shown v (overwritten_vars g table k e)) → KeepsCycleRules g table allocation k (shown v xs)
+  pinned_shown_keep allocation exact graph listed v h pins =
       let ds = seen_vars e in
       let vs = overwritten_vars g table k e in
       let c1 = target_clauses g k xs vs in
@@ -82,4 +83,4 @@ module _ (g : LaunchGraph) (table : Table) (k : ℕ) (e : Listed) where
         seen = seen-out g table k v xs ds (right v (c1 ++ c2) c3 h3);
       } in
       let few = slots-few v (counters-out exact 1 (before_counters g table k e) (before_counters g table k e) v (slot_groups table k xs) (omega arith) counted-before (right v (c1 ++ c2 ++ c3) c4 h)) in
-      keep_pinned_rules g table k (shown v xs) (all_shown v (IsListed g table k) 0 e.launches listed) graph.own_pins (shown v vs) (hidden v vs) pins (clash v) (shown v ds) says few
+      keep_pinned_rules g table allocation k (shown v xs) (all_shown v (IsListed g table allocation k) 0 e.launches listed) graph.own_pins (shown v vs) (hidden v vs) pins (clash v) (shown v ds) says few

@@ -12,12 +12,12 @@ use Rattle.graph_meaning.specs.declared.graphs.LaunchGraph.{LaunchGraph}
 use Rattle.graph_meaning.specs.declared.graphs.SetClass.{SetClass}
 use Rattle.schedule_meaning.specs.Launches.{instr_at, class_at, gives_word, pin_of, plain}
 use Rattle.schedule_meaning.specs.declared.schedules.Operand.{Operand}
+use Rattle.schedule_meaning.specs.declared.schedules.Allocation.{Allocation}
 use Rattle.schedule_meaning.specs.declared.schedules.To.{To}
 use Rattle.schedule_meaning.specs.declared.schedules.To.TheVariants.{Pool, Set}
-use Rattle.cycle_encoding.specs.Variables.{takes, set_numbers, destinations, pinned_sets}
+use Rattle.cycle_encoding.specs.Variables.{takes, takes_pin, set_numbers, destinations, pinned_sets}
 use Rattle.cycle_encoding.specs.Counts.{one_if}
 use Rattle.cycle_encoding.specs.Counts.{row_destinations}
-use Rattle.cycle_encoding.specs.Facts.{takes_pin}
 use Rattle.cycle_encoding.proofs.Launched.{size-map}
 use Rattle.cycle_encoding.proofs.Totals.{sum-map, size-ones}
 
@@ -39,19 +39,19 @@ filter_less {X} p q (x ∷ xs) h =
           ∙ sym (ap (λ (b : Bool). cond b (x ∷ filter p xs) (filter p xs)) (fails (p x) (q x) (h x) f))
     ]
 
-module _ (g : LaunchGraph) (i : InstrKind) (class : ℕ) where
-  has_pin : (b : Bool) (o : Option ℕ) → (b && takes_pin g i o) ≡ true → is_some o ≡ true
+module _ (g : LaunchGraph) (allocation : Allocation) (i : InstrKind) (class : ℕ) where
+  has_pin : (b : Bool) (o : Option ℕ) → (b && option_map_or (takes_pin g allocation i) o false) ≡ true → is_some o ≡ true
   has_pin true None h = absurd (let f : false ≡ true = h in cc)
   has_pin false None h = absurd (let f : false ≡ true = h in cc)
   has_pin b (Some r) h = refl
 
-  is_pinned : (o : Option SetClass) → option_map_or (λ (s : SetClass). (s.class == class) && takes_pin g i s.pin) o false ≡ true → is_some (option_and_then (λ (s : SetClass). s.pin) o) ≡ true
+  is_pinned : (o : Option SetClass) → option_map_or (λ (s : SetClass). (s.class == class) && option_map_or (takes_pin g allocation i) s.pin false) o false ≡ true → is_some (option_and_then (λ (s : SetClass). s.pin) o) ≡ true
   is_pinned None h = absurd (let f : false ≡ true = h in cc)
   is_pinned (Some s) h = has_pin (s.class == class) s.pin h
 
   -- a set that takes a word has a pin
-  pub takers : filter (takes g i class) (pinned_sets g) ≡ filter (takes g i class) (set_numbers g)
-  takers = filter_less (takes g i class) (λ j. is_some (pin_of g (Set j))) (set_numbers g) (λ j h. is_pinned (slice_get g.sets j) h)
+  pub takers : filter (takes g allocation i class) (pinned_sets g) ≡ filter (takes g allocation i class) (set_numbers g)
+  takers = filter_less (takes g allocation i class) (λ j. is_some (pin_of g (Set j))) (set_numbers g) (λ j h. is_pinned (slice_get g.sets j) h)
 
 -- a sum over those that pass
 pub sum_kept : {X : Type 0} (p : X → Bool) (f : X → ℕ) (xs : List X) → sum_by f (filter p xs) ≡ sum_by (λ x. one_if (p x) * f x) xs
@@ -70,50 +70,50 @@ sum_kept {X} p f (x ∷ xs) =
           ∙ ap (λ m. m + sum_by (λ x. one_if (p x) * f x) xs) (sym zero') ∙ sym s)
     ]
 
-module _ (g : LaunchGraph) (row : ℕ) where
+module _ (g : LaunchGraph) (allocation : Allocation) (row : ℕ) where
   abbrev places_of : Option InstrKind → List To
-  places_of o = option_map_or (λ i. destinations g i row) o []
+  places_of o = option_map_or (λ i. destinations g allocation i row) o []
 
-  given : (i : InstrKind) (b : Bool) → gives_word i ≡ b → destinations g i row ≡ Pool ∷ cond b (map Set (filter (takes g i (class_at g row)) (set_numbers g))) []
-  given i b e = ap (λ (b : Bool). Pool ∷ cond b (map Set (filter (takes g i (class_at g row)) (set_numbers g))) []) e
+  given : (i : InstrKind) (b : Bool) → gives_word i ≡ b → destinations g allocation i row ≡ Pool ∷ cond b (map Set (filter (takes g allocation i (class_at g row)) (set_numbers g))) []
+  given i b e = ap (λ (b : Bool). Pool ∷ cond b (map Set (filter (takes g allocation i (class_at g row)) (set_numbers g))) []) e
 
-  pub places_are : (i : InstrKind) → instr_at g row ≡ Some i → gives_word i ≡ true → row_destinations g row ≡ Pool ∷ map Set (filter (takes g i (class_at g row)) (pinned_sets g))
-  places_are i e w = ap places_of e ∙ given i true w ∙ ap (λ (js : List ℕ). Pool ∷ map Set js) (sym (takers g i (class_at g row)))
+  pub places_are : (i : InstrKind) → instr_at g row ≡ Some i → gives_word i ≡ true → row_destinations g allocation row ≡ Pool ∷ map Set (filter (takes g allocation i (class_at g row)) (pinned_sets g))
+  places_are i e w = ap places_of e ∙ given i true w ∙ ap (λ (js : List ℕ). Pool ∷ map Set js) (sym (takers g allocation i (class_at g row)))
 
-  pub only_pool : (i : InstrKind) → instr_at g row ≡ Some i → gives_word i ≡ false → row_destinations g row ≡ Pool ∷ []
+  pub only_pool : (i : InstrKind) → instr_at g row ≡ Some i → gives_word i ≡ false → row_destinations g allocation row ≡ Pool ∷ []
   only_pool i e w = ap places_of e ∙ given i false w
 
-  pub no_place : instr_at g row ≡ None → row_destinations g row ≡ []
+  pub no_place : instr_at g row ≡ None → row_destinations g allocation row ≡ []
   no_place e = ap places_of e
 
-  pub count_is : (i : InstrKind) → instr_at g row ≡ Some i → gives_word i ≡ true → length (row_destinations g row) ≡ 1 + count_by (takes g i (class_at g row)) (pinned_sets g)
+  pub count_is : (i : InstrKind) → instr_at g row ≡ Some i → gives_word i ≡ true → length (row_destinations g allocation row) ≡ 1 + count_by (takes g allocation i (class_at g row)) (pinned_sets g)
   count_is i e w =
       ap (λ (ts : List To). length ts) (places_are i e w)
-      ∙ (let m = size-map Set (filter (takes g i (class_at g row)) (pinned_sets g)) ∙ length-filter (takes g i (class_at g row)) (pinned_sets g) in
-      let s : length (Pool ∷ map Set (filter (takes g i (class_at g row)) (pinned_sets g))) ≡ suc (length (map Set (filter (takes g i (class_at g row)) (pinned_sets g)))) = refl in
+      ∙ (let m = size-map Set (filter (takes g allocation i (class_at g row)) (pinned_sets g)) ∙ length-filter (takes g allocation i (class_at g row)) (pinned_sets g) in
+      let s : length (Pool ∷ map Set (filter (takes g allocation i (class_at g row)) (pinned_sets g))) ≡ suc (length (map Set (filter (takes g allocation i (class_at g row)) (pinned_sets g)))) = refl in
       omega (arith, m, s))
 
-  pub count_one : (i : InstrKind) → instr_at g row ≡ Some i → gives_word i ≡ false → length (row_destinations g row) ≡ 1
+  pub count_one : (i : InstrKind) → instr_at g row ≡ Some i → gives_word i ≡ false → length (row_destinations g allocation row) ≡ 1
   count_one i e w = ap (λ (ts : List To). length ts) (only_pool i e w)
 
-  pub count_none : instr_at g row ≡ None → length (row_destinations g row) ≡ 0
+  pub count_none : instr_at g row ≡ None → length (row_destinations g allocation row) ≡ 0
   count_none e = ap (λ (ts : List To). length ts) (no_place e)
 
-  pub sum_ones : sum_by (λ (to : To). 1) (row_destinations g row) ≡ length (row_destinations g row)
-  sum_ones = sym (size-ones (row_destinations g row))
+  pub sum_ones : sum_by (λ (to : To). 1) (row_destinations g allocation row) ≡ length (row_destinations g allocation row)
+  sum_ones = sym (size-ones (row_destinations g allocation row))
 
   -- a sum over all destinations
   module _ (f : To → ℕ) where
-    pub sum_all : (i : InstrKind) → instr_at g row ≡ Some i → gives_word i ≡ true → sum_by f (row_destinations g row) ≡ f Pool + sum_by (λ j. one_if (takes g i (class_at g row) j) * f (Set j)) (pinned_sets g)
+    pub sum_all : (i : InstrKind) → instr_at g row ≡ Some i → gives_word i ≡ true → sum_by f (row_destinations g allocation row) ≡ f Pool + sum_by (λ j. one_if (takes g allocation i (class_at g row) j) * f (Set j)) (pinned_sets g)
     sum_all i e w =
         ap (sum_by f) (places_are i e w)
-        ∙ sum_by-cons f Pool (map Set (filter (takes g i (class_at g row)) (pinned_sets g)))
-        ∙ ap (λ n. f Pool + n) (sum-map f Set (filter (takes g i (class_at g row)) (pinned_sets g)) ∙ sum_kept (takes g i (class_at g row)) (λ j. f (Set j)) (pinned_sets g))
+        ∙ sum_by-cons f Pool (map Set (filter (takes g allocation i (class_at g row)) (pinned_sets g)))
+        ∙ ap (λ n. f Pool + n) (sum-map f Set (filter (takes g allocation i (class_at g row)) (pinned_sets g)) ∙ sum_kept (takes g allocation i (class_at g row)) (λ j. f (Set j)) (pinned_sets g))
 
-    pub sum_pool : (i : InstrKind) → instr_at g row ≡ Some i → gives_word i ≡ false → sum_by f (row_destinations g row) ≡ f Pool
+    pub sum_pool : (i : InstrKind) → instr_at g row ≡ Some i → gives_word i ≡ false → sum_by f (row_destinations g allocation row) ≡ f Pool
     sum_pool i e w = ap (sum_by f) (only_pool i e w) ∙ sum_by-cons f Pool [] ∙ (let z : f Pool + 0 ≡ f Pool = omega arith in z)
 
-    pub sum_none : instr_at g row ≡ None → sum_by f (row_destinations g row) ≡ 0
+    pub sum_none : instr_at g row ≡ None → sum_by f (row_destinations g allocation row) ≡ 0
     sum_none e = ap (sum_by f) (no_place e)
 
 -- one more operand

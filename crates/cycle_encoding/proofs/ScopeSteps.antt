@@ -18,17 +18,18 @@ use Rattle.graph_meaning.specs.Graphs.{is_zero_class}
 use Rattle.graph_meaning.specs.declared.graphs.LaunchGraph.{LaunchGraph}
 use Rattle.schedule_meaning.specs.Launches.{instr_at, launches, gives_word, is_store, is_branch, class_at}
 use Rattle.schedule_meaning.specs.declared.schedules.To.{To}
+use Rattle.schedule_meaning.specs.declared.schedules.Allocation.{Allocation}
 use Rattle.schedule_meaning.specs.declared.schedules.Launch.{Launch}
 use Rattle.cycle_encoding.specs.Variables.{slots_of, all_seen, is_word_class, classes_of}
 use Rattle.cycle_encoding.specs.Variables.{destinations, use_launches, row_launches, row_numbers, launches_from, all_launches, shown_classes, made_classes, is_safe}
 use Rattle.cycle_encoding.specs.CycleFormula.{listed_in}
 use Rattle.cycle_encoding.specs.Facts.{launch_to}
 use Rattle.cycle_encoding.specs.Counts.{row_is}
-use Rattle.cycle_encoding.specs.CycleFormula.{Listed, Scope, first_by, wants_by, first_cycle_in, wants_in}
-use Rattle.cycle_encoding.specs.Encodings.{IsScope}
+use Rattle.cycle_encoding.specs.CycleFormula.{Listed, Scope, allocation_in, first_by, wants_by, first_cycle_in, wants_in}
+use Rattle.cycle_encoding.specs.Encodings.{IsScope, allocation_of}
 use Rattle.cycle_encoding.specs.declared.encodings.Encoding.{Encoding}
+use Rattle.cycle_encoding.specs.declared.encodings.Encoding.TheVariants as encodings
 use Rattle.cycle_encoding.specs.declared.encodings.Encoding.TheVariants.{Wide, Narrow, Pinned}
-use Rattle.cycle_encoding.specs.declared.operands.There.TheVariants.{AtEntry}
 use Rattle.cycle_encoding.specs.Narrow.{Wanted, CanStart, HasVariable, IsPinnedList}
 use Rattle.cycle_encoding.specs.Coming.{start_needs, is_come, are_come, last_come, last_come_from, IsExactUpTo}
 use Rattle.cycle_encoding.specs.Wanting.{is_marked_class}
@@ -38,8 +39,8 @@ use Rattle.cycle_encoding.proofs.RowFacts.{some-and}
 use Rattle.cycle_encoding.proofs.Members.{filter-out, range-out}
 use Rattle.cycle_encoding.proofs.PinnedRows.{within}
 use Rattle.cycle_encoding.proofs.Lists.{listed-one}
-use Rattle.cycle_encoding.proofs.LackSteps.{need-in, need-out}
-use Rattle.cycle_encoding.proofs.ComeSteps.{are-in, are-out, low-class}
+use Rattle.cycle_encoding.proofs.LackSteps.{await-in, await-out}
+use Rattle.cycle_encoding.proofs.ComeSteps.{are-in, are-out, low-class, no-branch-word}
 
 -- ---- a first cycle, as a test
 
@@ -130,7 +131,7 @@ range_tail a (suc n) =
           step ∙ ap (λ b. range_with_len a (n - a) ++ cond b (n ∷ []) []) (le-leb a n le) ∙ sym (one_more a (n - a) n (omega arith)) ∙ ap (range_with_len a) after)
     ]
 
-module _ (g : LaunchGraph) (table : Table) (k : ℕ) (firsts : ℕ → Option ℕ) where
+module _ (g : LaunchGraph) (table : Table) (allocation : Allocation) (k : ℕ) (firsts : ℕ → Option ℕ) where
   abbrev pub begun : Launch → Bool
   begun l = is_begun (firsts l.row) l.cycle
 
@@ -175,17 +176,17 @@ module _ (g : LaunchGraph) (table : Table) (k : ℕ) (firsts : ℕ → Option �
     by_use None = refl
     by_use (Some u) = use_kept u (firsts row) refl
 
-  by_instr : (row : ℕ) (o : Option InstrKind) → option_map_or (λ i. option_map_or (λ u. option_map_or (λ n. use_launches table k row n (destinations g i row) u) (firsts row) []) (use_of table i) []) o [] ≡ filter begun (option_map_or (λ i. option_map_or (λ u. use_launches table k row 0 (destinations g i row) u) (use_of table i) []) o [])
+  by_instr : (row : ℕ) (o : Option InstrKind) → option_map_or (λ i. option_map_or (λ u. option_map_or (λ n. use_launches table k row n (destinations g allocation i row) u) (firsts row) []) (use_of table i) []) o [] ≡ filter begun (option_map_or (λ i. option_map_or (λ u. use_launches table k row 0 (destinations g allocation i row) u) (use_of table i) []) o [])
   by_instr row None = refl
-  by_instr row (Some i) = by_use row (destinations g i row) (use_of table i)
+  by_instr row (Some i) = by_use row (destinations g allocation i row) (use_of table i)
 
-  row_kept : (row : ℕ) → row_launches g table k (firsts row) row ≡ filter begun (row_launches g table k (Some 0) row)
+  row_kept : (row : ℕ) → row_launches g table allocation k (firsts row) row ≡ filter begun (row_launches g table allocation k (Some 0) row)
   row_kept row = by_instr row (instr_at g row)
 
-  pub all-kept : launches_from g table k firsts ≡ filter begun (all_launches g table k)
+  pub all-kept : launches_from g table allocation k firsts ≡ filter begun (all_launches g table allocation k)
   all-kept =
-      flat_same (λ row. row_launches g table k (firsts row) row) (λ row. filter begun (row_launches g table k (Some 0) row)) (row_numbers g) row_kept
-      ∙ sym (filter_flat begun (row_launches g table k (Some 0)) (row_numbers g))
+      flat_same (λ row. row_launches g table allocation k (firsts row) row) (λ row. filter begun (row_launches g table allocation k (Some 0) row)) (row_numbers g) row_kept
+      ∙ sym (filter_flat begun (row_launches g table allocation k (Some 0)) (row_numbers g))
 
 -- ---- classes
 
@@ -215,15 +216,17 @@ three_kinds (Store access) = inr (inl refl)
 three_kinds Beq = inr (inr refl)
 three_kinds i = inl refl
 
-module _ (g : LaunchGraph) (table : Table) (well : IsLaunchGraph g) (is_table : IsTable table) (come : List (Option ℕ)) (marks : List Bool) (exact : IsExactUpTo g table come 24) (wanted : (class : ℕ) → (is_marked_class marks class ≡ true) ↔ (Wanted g class × (class < next_class g.rows))) where
-  start-out : (row t : ℕ) → t ≤ most_cycles → are_come come t (start_needs g row) ≡ true → CanStart g table row t
-  start-out row t le h o need = (exact t o.class le).0 (are-out g table come t (start_needs g row) h o.class (need-in AtEntry g row o need))
+module _ (g : LaunchGraph) (table : Table) (allocation : Allocation) (well : IsLaunchGraph g) (is_table : IsTable table)
+    (come : List (Option ℕ)) (marks : List Bool) (exact : IsExactUpTo g table allocation come 24) (wanted : (class : ℕ) → (is_marked_class marks class ≡ true) ↔ (Wanted g class × (class < next_class g.rows))) where
+  start-out : (row t : ℕ) → t ≤ most_cycles → are_come come t (start_needs g allocation row) ≡ true → CanStart g table allocation row t
+  start-out row t le h class awaits =
+      (exact t class le).0
+      (are-out g table allocation come t (start_needs g allocation row) h class (await-in g allocation row class awaits))
 
-  start-in : (row t : ℕ) → t ≤ most_cycles → CanStart g table row t → are_come come t (start_needs g row) ≡ true
+  start-in : (row t : ℕ) → t ≤ most_cycles → CanStart g table allocation row t → are_come come t (start_needs g allocation row) ≡ true
   start-in row t le start =
-      are-in g table come t (start_needs g row) (λ c h.
-      let o = need-out AtEntry g row c h in
-      subst (λ x. is_come come t x ≡ true) o.2 ((exact t o.0.class le).1 (start o.0 o.1)))
+      are-in g table allocation come t (start_needs g allocation row) (λ c h.
+      (exact t c le).1 (start c (await-out g allocation row c h)))
 
   spoken-out : (l : Launch) → is_spoken_of g marks l.row ≡ true → (launches g is_store l ≡ true) ⊎ (launches g is_branch l ≡ true) ⊎ Wanted g (class_at g l.row)
   spoken-out l h =
@@ -241,31 +244,31 @@ module _ (g : LaunchGraph) (table : Table) (well : IsLaunchGraph g) (is_table : 
   spoken-in l i e (inr (inr w)) =
       elim (three_kinds i) [
         | inl t ↦
-            (let bound = low-class g table well l.row i e t in
+            (let bound = low-class g table allocation well l.row i e (no-branch-word i t) in
             or_right (row_is g is_store l.row) (row_is g is_branch l.row || is_marked_class marks (class_at g l.row)) (or_right (row_is g is_branch l.row) (is_marked_class marks (class_at g l.row)) ((wanted (class_at g l.row)).1 (w, bound))))
         | inr (inl t) ↦ or_left (row_is g is_store l.row) (row_is g is_branch l.row || is_marked_class marks (class_at g l.row)) (ap (λ (o : Option InstrKind). option_map_or is_store o false) e ∙ t)
         | inr (inr t) ↦ or_right (row_is g is_store l.row) (row_is g is_branch l.row || is_marked_class marks (class_at g l.row)) (or_left (row_is g is_branch l.row) (is_marked_class marks (class_at g l.row)) (ap (λ (o : Option InstrKind). option_map_or is_branch o false) e ∙ t))
       ]
 
-  first-out : (l : Launch) (b : Bool) → is_spoken_of g marks l.row ≡ b → is_begun (cond b (last_come come (start_needs g l.row)) None) l.cycle ≡ true → l.cycle ≤ most_cycles → HasVariable g table l
+  first-out : (l : Launch) (b : Bool) → is_spoken_of g marks l.row ≡ b → is_begun (cond b (last_come come (start_needs g allocation l.row)) None) l.cycle ≡ true → l.cycle ≤ most_cycles → HasVariable g table allocation l
   first-out l true e h le = record {
-    start = start-out l.row l.cycle le (sym (latest-begun come l.cycle (start_needs g l.row)) ∙ h);
+    start = start-out l.row l.cycle le (sym (latest-begun come l.cycle (start_needs g allocation l.row)) ∙ h);
     wanted = spoken-out l e;
   }
   first-out l false e h le = absurd (false≢true h)
 
-  first-in : (l : Launch) (i : InstrKind) → instr_at g l.row ≡ Some i → l.cycle ≤ most_cycles → HasVariable g table l → is_begun (first_cycle g come marks l.row) l.cycle ≡ true
+  first-in : (l : Launch) (i : InstrKind) → instr_at g l.row ≡ Some i → l.cycle ≤ most_cycles → HasVariable g table allocation l → is_begun (first_cycle g allocation come marks l.row) l.cycle ≡ true
   first-in l i e le v =
-      ap (λ b. is_begun (cond b (last_come come (start_needs g l.row)) None) l.cycle) (spoken-in l i e v.wanted)
-      ∙ latest-begun come l.cycle (start_needs g l.row) ∙ start-in l.row l.cycle le v.start
+      ap (λ b. is_begun (cond b (last_come come (start_needs g allocation l.row)) None) l.cycle) (spoken-in l i e v.wanted)
+      ∙ latest-begun come l.cycle (start_needs g allocation l.row) ∙ start-in l.row l.cycle le v.start
 
-  module _ (s : Scope) (firsts : s.firsts ≡ map (first_cycle g come marks) (row_numbers g)) (wants : s.wants ≡ marks) where
+  module _ (s : Scope) (same : allocation_in s ≡ allocation) (firsts : s.firsts ≡ map (first_cycle g allocation come marks) (row_numbers g)) (wants : s.wants ≡ marks) where
     module _ (by_firsts : (row : ℕ) → first_cycle_in s row ≡ slice_index_or s.firsts row None) (by_wants : (class : ℕ) → wants_in s class ≡ slice_index_or s.wants class false) (k : ℕ) (few : k ≤ most_cycles) where
-      first-is : (row : ℕ) → row < length g.rows + 1 + length g.sets → first_cycle_in s row ≡ first_cycle g come marks row
+      first-is : (row : ℕ) → row < length g.rows + 1 + length g.sets → first_cycle_in s row ≡ first_cycle g allocation come marks row
       first-is row lt =
           by_firsts row
           ∙ ap (λ (xs : List (Option ℕ)). slice_index_or xs row None) firsts
-          ∙ get_or-map-range_with_len (first_cycle g come marks) 0 (length g.rows + 1 + length g.sets) row row None lt (omega arith)
+          ∙ get_or-map-range_with_len (first_cycle g allocation come marks) 0 (length g.rows + 1 + length g.sets) row row None lt (omega arith)
 
       wants-is : (class : ℕ) → wants_in s class ≡ is_marked_class marks class
       wants-is class = by_wants class ∙ ap (λ (xs : List Bool). slice_index_or xs class false) wants
@@ -273,10 +276,10 @@ module _ (g : LaunchGraph) (table : Table) (well : IsLaunchGraph g) (is_table : 
       keep : Launch → Bool
       keep l = is_begun (first_cycle_in s l.row) l.cycle
 
-      keeps-one : (l : Launch) → Contains (all_launches g table k) l → Decides (keep l) (HasVariable g table l)
+      keeps-one : (l : Launch) → Contains (all_launches g table allocation k) l → Decides (keep l) (HasVariable g table allocation l)
       unfolding keep
       keeps-one l h =
-          let ok = listed-one g table k is_table l h in
+          let ok = listed-one g table allocation k is_table l h in
           let i = some-and (instr_at g l.row) (λ i. MayUse table i l.slot) ok.can in
           let is = ap (λ (f : Option ℕ). is_begun f l.cycle) (first-is l.row (within g l.row i.0 i.1)) in
           let early = ok.early in (
@@ -291,31 +294,54 @@ module _ (g : LaunchGraph) (table : Table) (well : IsLaunchGraph g) (is_table : 
             (λ w. wants-is c ∙ (wanted c).1 (w, (omega arith))),
           )
 
-      tabled-lists : IsPinnedList g table k (listed_in g table k s)
+      tabled-lists : IsPinnedList g table allocation k (listed_in g table k s)
       unfolding keep
       tabled-lists = record {
+        allocation_is = same;
         keep = keep;
         keeps = keeps-one;
-        launches_are = all-kept g table k (first_cycle_in s);
+        launches_are = ap (λ a. launches_from g table a k (first_cycle_in s)) same
+            ∙ all-kept g table allocation k (first_cycle_in s);
         want = wants_in s;
         wants = wants-one;
         seen_are = ap (all_seen table k) (shown-kept g (wants_in s));
       }
 
-    by-encoding : (e : Encoding) → s.encoding ≡ e → IsScope e g table s
-    by-encoding Wide is = record {
-      encoding = is;
-      lists = λ k few. ap {A = Encoding} {B = Listed} (λ e. record { launches = launches_from g table k (λ row. first_by e s.firsts row); seen = all_seen table k (shown_classes g (λ class. wants_by e s.wants class)) }) is;
+    abbrev lists_by : Encoding → ℕ → Listed
+    lists_by e k = record {
+      allocation = allocation_of e;
+      launches = launches_from g table (allocation_of e) k (λ row. first_by e s.firsts row);
+      seen = all_seen table k (shown_classes g (λ class. wants_by e s.wants class));
     }
-    by-encoding Narrow is = record {
+
+    -- the scope of an encoding that looks at the tables
+    by-tables : (e : Encoding) → s.encoding ≡ e → allocation_of e ≡ allocation
+        → ((row : ℕ) → first_by e s.firsts row ≡ slice_index_or s.firsts row None)
+        → ((class : ℕ) → wants_by e s.wants class ≡ slice_index_or s.wants class false)
+        → (k : ℕ) → k ≤ most_cycles → IsPinnedList g table (allocation_of e) k (listed_in g table k s)
+    by-tables e is at f w k few =
+        subst (λ a. IsPinnedList g table a k (listed_in g table k s)) (sym at)
+        (tabled-lists (λ row. ap (λ (e : Encoding). first_by e s.firsts row) is ∙ f row)
+        (λ class. ap (λ (e : Encoding). wants_by e s.wants class) is ∙ w class) k few)
+
+    by-encoding : (e : Encoding) → s.encoding ≡ e → allocation_of e ≡ allocation → IsScope e g table s
+    by-encoding Wide is at = record {
       encoding = is;
-      lists = tabled-lists (λ row. ap (λ (e : Encoding). first_by e s.firsts row) is) (λ class. ap (λ (e : Encoding). wants_by e s.wants class) is);
+      lists = λ k few. ap {A = Encoding} {B = Listed} (λ e. lists_by e k) is;
     }
-    by-encoding Pinned is = record {
+    by-encoding Narrow is at = record {
       encoding = is;
-      lists = tabled-lists (λ row. ap (λ (e : Encoding). first_by e s.firsts row) is) (λ class. ap (λ (e : Encoding). wants_by e s.wants class) is);
+      lists = by-tables Narrow is at (λ row. refl) (λ class. refl);
+    }
+    by-encoding Pinned is at = record {
+      encoding = is;
+      lists = by-tables Pinned is at (λ row. refl) (λ class. refl);
+    }
+    by-encoding encodings.Live is at = record {
+      encoding = is;
+      lists = by-tables encodings.Live is at (λ row. refl) (λ class. refl);
     }
 
     -- in each encoding the tables give its lists
     pub tabled-scope : IsScope s.encoding g table s
-    tabled-scope = by-encoding s.encoding refl
+    tabled-scope = by-encoding s.encoding refl same

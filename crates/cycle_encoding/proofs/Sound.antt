@@ -10,26 +10,27 @@ use Rattle.std.proofs.lemmas.List.Elements.{All-weaker, All-contains, Contains-g
 use Rattle.machine_table.specs.Tables.{cluster_of}
 use Rattle.graph_meaning.specs.Graphs.{is_memory_name, is_zero_class, is_input_register, HaveOwnPins}
 use Rattle.schedule_meaning.specs.Launches.{operands_at, ready_in, IsFree, IsZero, HasInput, IsUnwritten, IsReadable, Gives, gives, pin_of, writes_pin, goes_to, overwrites, spoils, collides, reads_until}
-use Rattle.schedule_meaning.specs.Fits.{CanLaunch, CanGo, Collide, CanRead, EndsBy}
+use Rattle.schedule_meaning.specs.Fits.{CanLaunch, Collide, CanRead, EndsBy}
 use Rattle.machine_table.specs.declared.tables.Table.{Table}
 use Rattle.graph_meaning.specs.declared.graphs.LaunchGraph.{LaunchGraph}
 use Rattle.graph_meaning.specs.declared.graphs.SetClass.{SetClass}
 use Rattle.schedule_meaning.specs.declared.schedules.Operand.{Operand}
 use Rattle.schedule_meaning.specs.declared.schedules.To.{To}
 use Rattle.schedule_meaning.specs.declared.schedules.To.TheVariants.{Pool, Set}
+use Rattle.schedule_meaning.specs.declared.schedules.Allocation.{Allocation}
 use Rattle.schedule_meaning.specs.declared.schedules.Launch.{Launch}
 use Rattle.schedule_meaning.proofs.Pins.{pinned_from, written_from, pin_from, from_goes, same_pin}
 use Rattle.cycle_encoding.specs.declared.seen.Seen.{Seen}
 use Rattle.cycle_encoding.specs.Families.{is_at, is_free, is_seen, makes}
 use Rattle.cycle_encoding.specs.Variables.{is_safe, is_overwriting, Overwritten}
 use Rattle.cycle_encoding.specs.Families.{is_made, is_made_target, is_input_at, takes_input, reads_own, is_needed, is_lost}
-use Rattle.cycle_encoding.specs.CycleRules.{KeepsCycleRules, IsFreeReached, ArePinsKept}
+use Rattle.cycle_encoding.specs.CycleRules.{KeepsCycleRules, IsFreeReached, ArePinsKept, MayGo}
 use Rattle.cycle_encoding.proofs.Tests.{two_at, same_at, All-from_filter, some_of, any_from, zero-is, free-is, gives-is}
 use Rattle.cycle_encoding.proofs.PinnedTests.{safe-is, at-is, register-from}
 use Rattle.cycle_encoding.proofs.Says.{SaysPinnedCycles}
 use Rattle.cycle_encoding.proofs.Lists.{IsListed}
 
-module _ (g : LaunchGraph) (table : Table) (k : ℕ) (S : List Launch) (listed : All (IsListed g table k) S) where
+module _ (g : LaunchGraph) (table : Table) (allocation : Allocation) (k : ℕ) (S : List Launch) (listed : All (IsListed g table allocation k) S) where
   -- ---- slots
 
   pub apart : ((s t : ℕ) → s < length table.slots → t < k → count_by (is_at s t) S ≤ 1) → AllPairs (λ l m. ¬ Collide l m) S
@@ -37,7 +38,7 @@ module _ (g : LaunchGraph) (table : Table) (k : ℕ) (S : List Launch) (listed :
       let a = get_or S i d in
       let b = get_or S j d in
       let la : i < length S = omega arith in
-      let ok : IsListed g table k a = listed i d la in
+      let ok : IsListed g table allocation k a = listed i d la in
       let pa : is_at a.slot a.cycle a ≡ true = and_from (a.slot == a.slot) (a.cycle == a.cycle) (eq-eqb a.slot a.slot refl) (eq-eqb a.cycle a.cycle refl) in
       let pb : is_at a.slot a.cycle b ≡ true = and_from (b.slot == a.slot) (b.cycle == a.cycle) (eq-eqb b.slot a.slot (sym c.1)) (eq-eqb b.cycle a.cycle (sym c.0)) in
       let two = two_at (is_at a.slot a.cycle) S i j d lt len pa pb in
@@ -164,14 +165,14 @@ module _ (g : LaunchGraph) (table : Table) (k : ℕ) (S : List Launch) (listed :
       own_read : (l : Launch) → Contains S l → (o : Operand) → reads_own g l o ≡ true → IsReadable g table S l o.class
       own_read l hl o h = own_by l hl o l.to refl (pin_of g l.to) refl h
 
-      read_until_low : (l : Launch) → IsListed g table k l → reads_until g l ≤ k
+      read_until_low : (l : Launch) → IsListed g table allocation k l → reads_until g l ≤ k
       read_until_low l ok =
           elim (cases_Bool (overwrites g l)) [
             | inl t ↦ (let e : reads_until g l ≡ l.cycle + 1 = ap (λ b. if b then l.cycle + 1 else l.cycle) t in let b = ok.early in omega arith)
             | inr f ↦ (let e : reads_until g l ≡ l.cycle = ap (λ b. if b then l.cycle + 1 else l.cycle) f in let b = ok.early in omega arith)
           ]
 
-      read_one : (l : Launch) → Contains S l → IsListed g table k l → (o : Operand) → (is_needed g l o ≡ true → (list_any (is_seen o.class (cluster_of table l.slot) l.cycle) D || list_any (is_lost g o.class (reads_until g l)) H) ≡ true) → IsFree g o ⊎ IsReadable g table S l o.class
+      read_one : (l : Launch) → Contains S l → IsListed g table allocation k l → (o : Operand) → (is_needed g l o ≡ true → (list_any (is_seen o.class (cluster_of table l.slot) l.cycle) D || list_any (is_lost g o.class (reads_until g l)) H) ≡ true) → IsFree g o ⊎ IsReadable g table S l o.class
       read_one l hl ok o h =
           elim (cases_Bool (is_free g o)) [
             | inl f ↦ inl (free-is g o f)
@@ -228,12 +229,12 @@ module _ (g : LaunchGraph) (table : Table) (k : ℕ) (S : List Launch) (listed :
           All-weaker (λ s. is_made_target g s ≡ true → (list_any (gives g s.class) S || list_any (is_lost g s.class k) H) ≡ true) (IsFreeReached g S) reach_one g.sets
           (All-from_filter (is_made_target g) (λ s. (list_any (gives g s.class) S || list_any (is_lost g s.class k) H) ≡ true) g.sets says.targets)
 
-      pub keep_pinned_rules : ((s t : ℕ) → s < length table.slots → t < k → count_by (is_at s t) S ≤ 1) → KeepsCycleRules g table k S
+      pub keep_pinned_rules : ((s t : ℕ) → s < length table.slots → t < k → count_by (is_at s t) S ≤ 1) → KeepsCycleRules g table allocation k S
       keep_pinned_rules few = record {
-        rows = All-weaker (IsListed g table k) (CanLaunch g table) (λ l h. h.can) S listed;
-        destinations = All-weaker (IsListed g table k) (CanGo g) (λ l h. h.goes) S listed;
+        rows = All-weaker (IsListed g table allocation k) (CanLaunch g table) (λ l h. h.can) S listed;
+        destinations = All-weaker (IsListed g table allocation k) (MayGo g allocation) (λ l h. h.goes) S listed;
         apart = apart few;
         operands = reads;
-        in_time = All-weaker (IsListed g table k) (EndsBy g table k) (λ l h. h.ends) S listed;
+        in_time = All-weaker (IsListed g table allocation k) (EndsBy g table k) (λ l h. h.ends) S listed;
         targets = reached;
       }

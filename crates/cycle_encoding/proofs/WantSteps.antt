@@ -30,7 +30,8 @@ use Rattle.cycle_encoding.specs.Steps.{put_at}
 use Rattle.cycle_encoding.proofs.Rows.{range_more}
 use Rattle.cycle_encoding.proofs.Sorted.{put_more, put_none}
 use Rattle.cycle_encoding.proofs.LackSteps.{need-in, need-out}
-use Rattle.cycle_encoding.proofs.ComeSteps.{low-class}
+use Rattle.cycle_encoding.proofs.ComeSteps.{low-class, no-branch-word}
+use Rattle.schedule_meaning.specs.declared.schedules.Allocation.TheVariants.{Block}
 
 pub longer-same : (xs : List ℕ) → IsLonger xs xs
 longer-same xs = ([], sym (append-nil xs))
@@ -248,7 +249,7 @@ module _ (g : LaunchGraph) (well : IsLaunchGraph g) (marks : List Bool) (order :
       let number = range-in 0 (length g.rows + 1 + length g.sets) row (omega arith) (omega arith) in
       root_marked row o number (or_right (row_is g is_branch row) (is_wanting_store row) wants) need lt
   all-marked _ (operand row o i e w inner need) lt =
-      let bound = low-class g ev6 well row i e w in
+      let bound = low-class g ev6 Block well row i e (no-branch-word i w) in
       let mark = all-marked (class_at g row) inner (omega arith) in
       let gives : row_is g gives_word row ≡ true = ap (λ (o : Option InstrKind). option_map_or gives_word o false) e ∙ w in
       let member : Contains (giving_rows g (class_at g row)) row = filter-in (λ r. row_is g gives_word r && (class_at g r == class_at g row)) (row_numbers g) row (number-in g row i e) (and_from (row_is g gives_word row) (class_at g row == class_at g row) gives (eq-eqb (class_at g row) (class_at g row) refl)) in

@@ -11,8 +11,9 @@ use Rattle.machine_table.specs.declared.tables.Use.{Use}
 use Rattle.machine_table.specs.declared.tables.InstrKind.{InstrKind}
 use Rattle.graph_meaning.specs.declared.graphs.LaunchGraph.{LaunchGraph}
 use Rattle.cycle_encoding.specs.Variables.{slots_of, clusters_of}
-use Rattle.cycle_encoding.specs.CycleFormula.{Scope, first_cycle_in, wants_in}
+use Rattle.cycle_encoding.specs.CycleFormula.{Scope, allocation_in, first_cycle_in, wants_in}
 use Rattle.cnf_core.specs.Counter.{at_most_size, at_most_vars}
+use Rattle.schedule_meaning.specs.declared.schedules.Allocation.{Allocation}
 use Rattle.schedule_meaning.specs.declared.schedules.Operand.{Operand}
 use Rattle.schedule_meaning.specs.declared.schedules.To.{To}
 use Rattle.cycle_encoding.specs.Variables.{destinations, row_numbers, shown_classes}
@@ -54,8 +55,8 @@ module _ (g : LaunchGraph) (table : Table) (k : ℕ) (s : Scope) where
       (row_use g table row) false
 
 -- where launches of a row's number may go
-abbrev pub row_destinations : LaunchGraph → ℕ → List To
-row_destinations g row = option_map_or (λ i. destinations g i row) (instr_at g row) []
+abbrev pub row_destinations : LaunchGraph → Allocation → ℕ → List To
+row_destinations g a row = option_map_or (λ i. destinations g a i row) (instr_at g row) []
 
 -- a launch with this destination needs a clause for the operand
 abbrev pub needs_clause : LaunchGraph → To → Operand → Bool
@@ -64,12 +65,15 @@ needs_clause g to o = is_made g o && not (option_map_or (is_input_at g o.class) 
 module _ (g : LaunchGraph) (table : Table) (k : ℕ) (s : Scope) where
   -- a sum over the launches of something that hangs on the row and on where it goes
   abbrev pub sum_destined : (ℕ → To → ℕ) → ℕ
-  sum_destined f = sum_by (λ row. row_count g table k s row * sum_by (f row) (row_destinations g row)) (row_numbers g)
+  sum_destined f =
+      sum_by (λ row. row_count g table k s row * sum_by (f row) (row_destinations g (allocation_in s) row))
+      (row_numbers g)
 
   -- how many launches there are in a slot and cycle
   abbrev pub destined_at : ℕ → ℕ → ℕ
   destined_at slot cycle =
-      sum_by (λ row. one_if (row_has g table k s slot cycle row) * length (row_destinations g row)) (row_numbers g)
+      sum_by (λ row. one_if (row_has g table k s slot cycle row) * length (row_destinations g (allocation_in s) row))
+      (row_numbers g)
 
   -- a sum over slots and cycles
   abbrev pub sum_places : (ℕ → ℕ → ℕ) → ℕ

@@ -4,11 +4,15 @@ use Rattle.std.specs.Prelude.{ℕ, Bool, true, false, List, [], length, Option, 
 use Rattle.std.specs.List.{slice_index_or}
 use Rattle.machine_table.specs.declared.tables.Table.{Table}
 use Rattle.graph_meaning.specs.declared.graphs.LaunchGraph.{LaunchGraph}
+use Rattle.schedule_meaning.specs.declared.schedules.Allocation.{Allocation}
+use Rattle.schedule_meaning.specs.declared.schedules.Allocation.TheVariants.{Block}
 use Rattle.schedule_meaning.specs.declared.schedules.Launch.{Launch}
 use Rattle.cycle_encoding.specs.Shapes.{numbered, counters, counters_vars}
 use Rattle.cycle_encoding.specs.Variables.{Seen, all_seen}
 use Rattle.cycle_encoding.specs.declared.encodings.Encoding.{Encoding}
+use Rattle.cycle_encoding.specs.declared.encodings.Encoding.TheVariants as encodings
 use Rattle.cycle_encoding.specs.declared.encodings.Encoding.TheVariants.{Wide, Narrow, Pinned}
+use Rattle.cycle_encoding.specs.Allocations.{allocation_of}
 use Rattle.cnf_core.specs.declared.literal.Lit.{Lit}
 use Rattle.cnf_core.specs.Formula.{Formula}
 use Rattle.cycle_encoding.specs.Variables.{launches_from, shown_classes, all_launches, made_classes}
@@ -16,8 +20,10 @@ use Rattle.cycle_encoding.specs.Variables.{all_overwritten, Overwritten}
 use Rattle.cycle_encoding.specs.Families.{seen_clauses, slot_groups}
 use Rattle.cycle_encoding.specs.Families.{target_clauses, operand_clauses}
 
--- the launches that have variables, and what is seen, by which an encoding differs from others
+-- how long launches keep their registers, which launches have variables, and what is seen, by which an encoding differs
+-- from others
 pub record Listed : Type 0 where
+  pub allocation : Allocation
   pub launches : List Launch
   pub seen : List Seen
 
@@ -32,6 +38,7 @@ abbrev pub first_by : Encoding → List (Option ℕ) → ℕ → Option ℕ
 first_by Wide firsts row = Some 0
 first_by Narrow firsts row = slice_index_or firsts row None
 first_by Pinned firsts row = slice_index_or firsts row None
+first_by encodings.Live firsts row = slice_index_or firsts row None
 
 abbrev pub first_cycle_in : Scope → ℕ → Option ℕ
 first_cycle_in s row = first_by s.encoding s.firsts row
@@ -40,9 +47,13 @@ abbrev pub wants_by : Encoding → List Bool → ℕ → Bool
 wants_by Wide wants class = true
 wants_by Narrow wants class = slice_index_or wants class false
 wants_by Pinned wants class = slice_index_or wants class false
+wants_by encodings.Live wants class = slice_index_or wants class false
 
 abbrev pub wants_in : Scope → ℕ → Bool
 wants_in s class = wants_by s.encoding s.wants class
+
+abbrev pub allocation_in : Scope → Allocation
+allocation_in s = allocation_of s.encoding
 
 abbrev pub wide_scope : Scope
 wide_scope = record { encoding = Wide; firsts = []; wants = [] }
@@ -60,13 +71,19 @@ module _ (e : Listed) where
 
 -- every launch that ends by k, and every class that launches have to make
 abbrev pub wide : LaunchGraph → Table → ℕ → Listed
-wide g table k = record { launches = all_launches g table k; seen = all_seen table k (made_classes g) }
+wide g table k =
+    record {
+      allocation = Block;
+      launches = all_launches g table Block k;
+      seen = all_seen table k (made_classes g);
+    }
 
 -- what has variables by the tables of a scope
 abbrev pub listed_in : LaunchGraph → Table → ℕ → Scope → Listed
 listed_in g table k s =
     record {
-      launches = launches_from g table k (first_cycle_in s);
+      allocation = allocation_in s;
+      launches = launches_from g table (allocation_in s) k (first_cycle_in s);
       seen = all_seen table k (shown_classes g (wants_in s));
     }
 

@@ -63,10 +63,6 @@ is_unsafe_class g c = is_word_class g c && (not (is_safe g c) && not (is_zero_cl
 abbrev pub is_unsafe_shown : LaunchGraph → (ℕ → Bool) → ℕ → Bool
 is_unsafe_shown g wants c = wants c && is_unsafe_class g c
 
--- a word of the instruction may go to a set with this pin, if it has one
-abbrev pub takes_pin : LaunchGraph → InstrKind → Option ℕ → Bool
-takes_pin g i pin = option_map_or (λ r. not (is_load i && is_input_register g r)) pin false
-
 abbrev pub launch_to : ℕ → ℕ → ℕ → To → Launch
 launch_to row slot cycle to = record { cycle = cycle; slot = slot; row = row; to = to }
 

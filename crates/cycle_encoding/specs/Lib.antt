@@ -1,5 +1,6 @@
 pub mod Limits
 pub mod Shapes
+pub mod Allocations
 pub mod Variables
 pub mod Families
 pub mod CycleFormula

@@ -1,21 +1,24 @@
--- The narrow encoding, and that with pins: variables only for launches that can start by their cycle and whose word is
--- wanted, by where they go, and only for wanted classes. Source: this project.
-use Rattle.std.specs.Prelude.{◌≡◌, ℕ, ◌+◌, ◌≤◌, Bool, true, false, Some, IsTrue, Contains, Decides, ◌⊎◌, slice_get}
+-- The narrow encoding, that with pins, and that by live ranges: variables only for launches that can start by their
+-- cycle and whose word is wanted, by where they go, and only for wanted classes. Source: this project.
+use Rattle.std.specs.Prelude.{◌≡◌, ℕ, ◌+◌, ◌≤◌, Bool, true, false, Some, None, Option, IsTrue, Contains, Decides, ◌⊎◌, ◌||◌, slice_get}
 use Rattle.std.specs.List.{filter}
 use Rattle.word_ops.specs.declared.sorts.Access.TheVariants.{Quad}
 use Rattle.word_ops.specs.declared.sorts.Op.{Op}
 use Rattle.word_ops.specs.declared.sorts.Op.TheVariants.{Store, Put}
 use Rattle.machine_table.specs.Tables.{use_of}
 use Rattle.graph_meaning.specs.Graphs.{is_memory_name, IsPin}
-use Rattle.schedule_meaning.specs.Launches.{instr_at, launches, gives_word, is_store, is_branch, class_at}
-use Rattle.schedule_meaning.specs.Launches.{operands_at, HasInput, IsFree, IsClassOfInput}
+use Rattle.schedule_meaning.specs.Launches.{instr_at, launches, gives_word, is_load, is_store, is_branch, class_at}
+use Rattle.schedule_meaning.specs.Launches.{operands_at, memory_class_at, HasInput, IsFree, IsClassOfInput}
 use Rattle.schedule_meaning.specs.declared.schedules.Operand.{Operand}
 use Rattle.machine_table.specs.declared.tables.Table.{Table}
 use Rattle.machine_table.specs.declared.tables.Use.{Use}
 use Rattle.machine_table.specs.declared.tables.InstrKind.{InstrKind}
+use Rattle.machine_table.specs.declared.tables.InstrKind.TheVariants as kinds
 use Rattle.graph_meaning.specs.declared.graphs.LaunchGraph.{LaunchGraph}
 use Rattle.graph_meaning.specs.declared.graphs.LaunchRow.{LaunchRow}
 use Rattle.graph_meaning.specs.declared.graphs.SetClass.{SetClass}
+use Rattle.schedule_meaning.specs.declared.schedules.Allocation.{Allocation}
+use Rattle.schedule_meaning.specs.declared.schedules.Allocation.TheVariants.{Live}
 use Rattle.schedule_meaning.specs.declared.schedules.Launch.{Launch}
 use Rattle.cycle_encoding.specs.Variables.{all_seen}
 use Rattle.cycle_encoding.specs.Variables.{all_launches, made_classes}
@@ -53,27 +56,45 @@ pub data Wanted (g : LaunchGraph) : ℕ → Type 0 where
   operand : (row : ℕ) (o : Operand) (i : InstrKind) → instr_at g row ≡ Some i → IsTrue (gives_word i)
       → Wanted g (class_at g row) → Lacks g (IsSafe g) row o → Wanted g o.class
 
--- some row or copy of the class can start so early that its word is ready by t in its own cluster
-pub data HasCome (g : LaunchGraph) (table : Table) : ℕ → ℕ → Type 0 where
-  come : (row start t : ℕ) (i : InstrKind) (u : Use) → instr_at g row ≡ Some i → IsTrue (gives_word i)
-      → use_of table i ≡ Some u → start + u.latency ≤ t
-      → ((o : Operand) → Lacks g (IsClassOfInput g) row o → HasCome g table o.class start)
-      → HasCome g table (class_at g row) t
+-- the instruction reads a memory: it is a load or a store
+abbrev pub accesses : InstrKind → Bool
+accesses i = is_load i || is_store i
 
--- each operand that the row lacks has come by t
-abbrev pub CanStart : LaunchGraph → Table → ℕ → ℕ → Type 0
-CanStart g table row t = (o : Operand) → Lacks g (IsClassOfInput g) row o → HasCome g table o.class t
+-- a launch of the row can start only when this class has come: that of a word operand that the row lacks; and by live
+-- ranges that of the memory which it reads, if that isn't the one at entry
+pub data Awaits (g : LaunchGraph) (a : Allocation) (row : ℕ) : ℕ → Type 0 where
+  word : (o : Operand) → Lacks g (IsClassOfInput g) row o → Awaits g a row o.class
+  memory : (i : InstrKind) → a ≡ Live → instr_at g row ≡ Some i → IsTrue (accesses i)
+      → ¬ (memory_class_at g row ≡ g.entry) → Awaits g a row (memory_class_at g row)
+
+-- how many cycles behind its start a launch's class has come: a word after its latency, a store's memory in the next
+abbrev pub delay_of : InstrKind → Use → Option ℕ
+delay_of (kinds.Store access) u = Some 1
+delay_of kinds.Beq u = None
+delay_of i u = Some u.latency
+
+-- some row or copy of the class can start so early that its word is ready by t in its own cluster, or its memory left
+pub data HasCome (g : LaunchGraph) (table : Table) (a : Allocation) : ℕ → ℕ → Type 0 where
+  come : (row start t delay : ℕ) (i : InstrKind) (u : Use) → instr_at g row ≡ Some i → use_of table i ≡ Some u
+      → delay_of i u ≡ Some delay → start + delay ≤ t
+      → ((class : ℕ) → Awaits g a row class → HasCome g table a class start)
+      → HasCome g table a (class_at g row) t
+
+-- each class that a launch of the row awaits has come by t
+abbrev pub CanStart : LaunchGraph → Table → Allocation → ℕ → ℕ → Type 0
+CanStart g table a row t = (class : ℕ) → Awaits g a row class → HasCome g table a class t
 
 -- the launch has a variable
-pub record HasVariable (g : LaunchGraph) (table : Table) (l : Launch) : Type 0 where
-  pub start : CanStart g table l.row l.cycle
+pub record HasVariable (g : LaunchGraph) (table : Table) (a : Allocation) (l : Launch) : Type 0 where
+  pub start : CanStart g table a l.row l.cycle
   pub wanted : IsTrue (launches g is_store l) ⊎ IsTrue (launches g is_branch l) ⊎ Wanted g (class_at g l.row)
 
--- the lists of the two encodings, in the order of all launches and of all made classes
-pub record IsPinnedList (g : LaunchGraph) (table : Table) (k : ℕ) (e : Listed) : Type 0 where
+-- the lists of these encodings, in the order of all launches and of all made classes
+pub record IsPinnedList (g : LaunchGraph) (table : Table) (a : Allocation) (k : ℕ) (e : Listed) : Type 0 where
+  pub allocation_is : e.allocation ≡ a
   pub keep : Launch → Bool
-  pub keeps : (l : Launch) → Contains (all_launches g table k) l → Decides (keep l) (HasVariable g table l)
-  pub launches_are : e.launches ≡ filter keep (all_launches g table k)
+  pub keeps : (l : Launch) → Contains (all_launches g table a k) l → Decides (keep l) (HasVariable g table a l)
+  pub launches_are : e.launches ≡ filter keep (all_launches g table a k)
   pub want : ℕ → Bool
   pub wants : (c : ℕ) → Contains (made_classes g) c → Decides (want c) (Wanted g c)
   pub seen_are : e.seen ≡ all_seen table k (filter want (made_classes g))

@@ -5,6 +5,7 @@ use Rattle.cycle_encoding.specs.Limits.{most_vars, most_clauses}
 use Rattle.cnf_core.specs.Formula.{Formula}
 use Rattle.machine_table.specs.declared.tables.Table.{Table}
 use Rattle.graph_meaning.specs.declared.graphs.LaunchGraph.{LaunchGraph}
+use Rattle.schedule_meaning.specs.declared.schedules.Allocation.TheVariants.{Block}
 use Rattle.schedule_meaning.specs.declared.schedules.Launch.{Launch}
 use Rattle.cycle_encoding.specs.Variables.{all_launches}
 use Rattle.cycle_encoding.specs.CycleFormula.{wide, before_overwritten}
@@ -25,7 +26,7 @@ plan_of g table k =
     record {
       encoding = Wide;
       cycles = k;
-      launches = all_launches g table k;
+      launches = all_launches g table Block k;
       overwritten = before_overwritten (wide g table k);
     }
 

@@ -1,7 +1,7 @@
 -- What the first variables of a schedule's formula stand for: each launch by where it goes, what is seen of classes that
 -- launches have to make, and which input registers are overwritten. Source: this project.
 use Rattle.word_ops.specs.declared.sorts.Sort.TheVariants as sort
-use Rattle.std.specs.Prelude.{ℕ, ◌==◌, ◌&&◌, nat_le, Bool, true, false, List, map, length, ◌+◌, ◌-◌, not, [], ◌∷◌}
+use Rattle.std.specs.Prelude.{ℕ, ◌==◌, ◌&&◌, nat_le, Bool, true, false, List, map, length, ◌+◌, ◌-◌, not, ◌||◌, [], ◌∷◌}
 use Rattle.std.specs.Prelude.{slice_get, Option, Some, is_some, if◌then◌else◌}
 use Rattle.std.specs.Option.{option_map_or}
 use Rattle.std.specs.List.{filter, flat_map, list_any, range_with_len}
@@ -16,9 +16,11 @@ pub use Rattle.cycle_encoding.specs.declared.seen.Seen.{Seen}
 use Rattle.machine_table.specs.Tables.{use_of}
 use Rattle.schedule_meaning.specs.Launches.{instr_at, class_at, gives_word, is_load, pin_of}
 use Rattle.machine_table.specs.declared.tables.InstrKind.{InstrKind}
+use Rattle.schedule_meaning.specs.declared.schedules.Allocation.{Allocation}
 use Rattle.schedule_meaning.specs.declared.schedules.Launch.{Launch}
 use Rattle.schedule_meaning.specs.declared.schedules.To.{To}
 use Rattle.schedule_meaning.specs.declared.schedules.To.TheVariants.{Pool, Set}
+use Rattle.cycle_encoding.specs.Allocations.{loads_overwrite}
 
 -- ---- launches
 
@@ -62,12 +64,16 @@ all_seen table k classes =
 
 -- ---- launches
 
--- the pinned set of this number takes a word of the class from the instruction: none of a load where its pin is an
+-- a word of the instruction may go to the pin: by live ranges alone where the instruction is a load and the pin an
 -- input's register
-abbrev pub takes : LaunchGraph → InstrKind → ℕ → ℕ → Bool
-takes g i class j =
+abbrev pub takes_pin : LaunchGraph → Allocation → InstrKind → ℕ → Bool
+takes_pin g a i r = loads_overwrite a || not (is_load i && is_input_register g r)
+
+-- the pinned set of this number takes a word of the class from the instruction
+abbrev pub takes : LaunchGraph → Allocation → InstrKind → ℕ → ℕ → Bool
+takes g a i class j =
     option_map_or
-    (λ s. (s.class == class) && option_map_or (λ r. not (is_load i && is_input_register g r)) s.pin false)
+    (λ s. (s.class == class) && option_map_or (takes_pin g a i) s.pin false)
     (slice_get g.sets j) false
 
 abbrev pub set_numbers : LaunchGraph → List ℕ
@@ -78,9 +84,9 @@ abbrev pub pinned_sets : LaunchGraph → List ℕ
 pinned_sets g = filter (λ j. is_some (pin_of g (Set j))) (set_numbers g)
 
 -- where a launch of a row's number may go: to the pool, and where it gives a word, to each pinned set that takes it
-abbrev pub destinations : LaunchGraph → InstrKind → ℕ → List To
-destinations g i row =
-    Pool ∷ (if gives_word i then map Set (filter (takes g i (class_at g row)) (set_numbers g)) else [])
+abbrev pub destinations : LaunchGraph → Allocation → InstrKind → ℕ → List To
+destinations g a i row =
+    Pool ∷ (if gives_word i then map Set (filter (takes g a i (class_at g row)) (set_numbers g)) else [])
 
 -- the launches of a row in the slots that its use allows, in each cycle from the first one from which it ends by k, to
 -- each of these destinations
@@ -93,11 +99,11 @@ use_launches table k row first tos u =
     (slots_of table u)
 
 -- the launches of a row's number from a first cycle, if the row can be launched and the table names its instruction
-abbrev pub row_launches : LaunchGraph → Table → ℕ → Option ℕ → ℕ → List Launch
-row_launches g table k first row =
+abbrev pub row_launches : LaunchGraph → Table → Allocation → ℕ → Option ℕ → ℕ → List Launch
+row_launches g table a k first row =
     option_map_or
     (λ i. option_map_or
-    (λ u. option_map_or (λ n. use_launches table k row n (destinations g i row) u) first [])
+    (λ u. option_map_or (λ n. use_launches table k row n (destinations g a i row) u) first [])
     (use_of table i) [])
     (instr_at g row) []
 
@@ -107,12 +113,12 @@ row_numbers g = range_with_len 0 (length g.rows + 1 + length g.sets)
 
 -- the launches of each row from its first cycle that end by k: by row, then by slot, then by cycle, then by where they
 -- go, the pool first
-abbrev pub launches_from : LaunchGraph → Table → ℕ → (ℕ → Option ℕ) → List Launch
-launches_from g table k firsts = flat_map (λ row. row_launches g table k (firsts row) row) (row_numbers g)
+abbrev pub launches_from : LaunchGraph → Table → Allocation → ℕ → (ℕ → Option ℕ) → List Launch
+launches_from g table a k firsts = flat_map (λ row. row_launches g table a k (firsts row) row) (row_numbers g)
 
 -- all launches that end by k
-abbrev pub all_launches : LaunchGraph → Table → ℕ → List Launch
-all_launches g table k = launches_from g table k (λ row. Some 0)
+abbrev pub all_launches : LaunchGraph → Table → Allocation → ℕ → List Launch
+all_launches g table a k = launches_from g table a k (λ row. Some 0)
 
 -- ---- classes
 

@@ -2,7 +2,7 @@
 ghost use Rattle.std.specs.Prelude.{◌≡◌, ◌+◌, ◌<◌, ◌≤◌, ◌^◌, ◌++◌, IfOk, OnOk, length};
 ghost use Rattle.schedule_meaning.specs.Limits.{most_cycles};
 ghost use Rattle.machine_table.specs.Tables.{IsTable};
-ghost use Rattle.cycle_encoding.specs.CycleFormula.{first_cycle_in};
+ghost use Rattle.cycle_encoding.specs.CycleFormula.{allocation_in, first_cycle_in};
 ghost use Rattle.cycle_encoding.specs.Facts as specs;
 ghost use Rattle.cycle_encoding.specs.Variables.{launches_from, row_launches};
 
@@ -11,7 +11,7 @@ use crate::reaching::destinations;
 use crate::{Facts, Scope};
 use items::NoMemory;
 use machine_table::{InstrKind, Table};
-use schedule_meaning::{Launch, To};
+use schedule_meaning::{Allocation, Launch, To};
 use std::alloc::Global;
 
 /// The launches of each row from its first cycle that end by k: by row, then by slot, then by cycle, then by where they
@@ -28,11 +28,21 @@ pub fn launches_from(
     requires table { IsTable table.now }
     requires rows { length facts.now.rows < 2 ^ 30 }
     ensures { IfOk result (λ launches. launches.items
-        ≡ launches_from facts.now table.now k (first_cycle_in scope.now)) }
+        ≡ launches_from facts.now table.now (allocation_in scope.now) k (first_cycle_in scope.now)) }
 {
     let mut launches = Vec::new(alloc);
     for row in 0..facts.row_numbers() {
-        push_row(alloc, &mut launches, facts, table, scope.first(row), k, row)?;
+        let first = scope.first(row);
+        push_row(
+            alloc,
+            &mut launches,
+            facts,
+            table,
+            scope.allocation(),
+            first,
+            k,
+            row,
+        )?;
     }
     Ok(launches)
 }
@@ -44,13 +54,15 @@ fn push_row(
     launches: &mut Vec<Launch>,
     facts: &Facts,
     table: &Table,
+    allocation: Allocation,
     first: Option<u32>,
     k: u32,
     row: u32,
 ) -> Result<(), NoMemory>
     requires cycles { k ≤ most_cycles }
     requires table { IsTable table.now }
-    ensures { OnOk result (launches.new.items ≡ launches.old.items ++ row_launches facts.now table.now k first row) }
+    ensures { OnOk result (launches.new.items
+        ≡ launches.old.items ++ row_launches facts.now table.now allocation k first row) }
 {
     let Some(instr) = facts.instr_at(row) else {
         return Ok(());
@@ -61,7 +73,7 @@ fn push_row(
     let Some(first) = first else {
         return Ok(());
     };
-    let tos = destinations(alloc, facts, row)?;
+    let tos = destinations(alloc, facts, allocation, row)?;
     let cycles = cycles(k, latency, first);
     for slot in 0..table.slots.len() as u32 {
         if may_use(table, instr, slot) {

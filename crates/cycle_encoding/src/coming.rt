@@ -1,4 +1,5 @@
-// By which cycle each class has come: the word of some row or copy of it is ready in its own cluster.
+// By which cycle each class has come: the word of some row or copy of it is ready in its own cluster, or the memory of
+// some store of it is left.
 ghost use Rattle.std.specs.Prelude.{◌≡◌, ◌+◌, ◌≤◌, ℕ, None, length, map, IfOk};
 ghost use Rattle.std.specs.List.{range_with_len};
 ghost use Rattle.schedule_meaning.specs.Limits.{most_cycles};
@@ -14,17 +15,20 @@ use crate::facts::next_class;
 use crate::marks::filled;
 use items::{Items, NoMemory};
 use machine_table::{InstrKind, Table};
-use schedule_meaning::{MOST_CYCLES, class_at};
+use schedule_meaning::{Allocation, MOST_CYCLES, class_at};
 use std::alloc::Global;
 
-/// The last cycle that is asked of.
-
-/// After how many cycles the row gives its word, if it gives one and the table names its instruction.
-fn word_latency(facts: &Facts, table: &Table, row: u32) -> Option<u32>
-    ensures { result ≡ coming.word_latency facts.now table.now row }
+/// After how many cycles the row's class has come, if it gives one and the table names its instruction: a word after its
+/// latency, a store's memory in the next cycle.
+pub fn delay(facts: &Facts, table: &Table, row: u32) -> Option<u32>
+    ensures { result ≡ coming.delay_at facts.now table.now row }
 {
     match facts.instr_at(row) {
-        Some(InstrKind::Store(_) | InstrKind::Beq) | None => None,
+        Some(InstrKind::Beq) | None => None,
+        Some(InstrKind::Store(access)) => match table.latency(InstrKind::Store(access)) {
+            Some(_) => Some(1),
+            None => None,
+        },
         Some(instr) => table.latency(instr),
     }
 }
@@ -63,33 +67,34 @@ fn put_come(come: &mut Vec<Option<u32>>, class: u32, cycle: u32)
     }
 }
 
-/// Finds when the row's word comes, if the row can start at the cycle.
+/// Finds when the row's class comes, if the row can start at the cycle.
 fn pass_row(
     come: &mut Vec<Option<u32>>,
     facts: &Facts,
     table: &Table,
+    _allocation: Allocation,
     needs: &[u32],
     row: u32,
     cycle: u32,
 )
     requires graph { IsLaunchGraph facts.now }
-    requires needs { needs.now ≡ start_needs facts.now row }
+    requires needs { needs.now ≡ start_needs facts.now _allocation row }
     requires cycle { cycle ≤ most_cycles }
     requires table { IsTable table.now }
     requires long { length come.old.items ≡ next_class facts.now.rows }
-    requires sound { AreSound facts.now table.now come.old.items }
-    requires found { ComesAreFound facts.now table.now come.old.items cycle }
+    requires sound { AreSound facts.now table.now _allocation come.old.items }
+    requires found { ComesAreFound facts.now table.now _allocation come.old.items cycle }
     ensures long { length come.new.items ≡ length come.old.items }
-    ensures sound { AreSound facts.now table.now come.new.items }
+    ensures sound { AreSound facts.now table.now _allocation come.new.items }
     ensures still { StillCome come.old.items come.new.items }
-    ensures passed { IsPassed facts.now table.now come.new.items cycle row }
+    ensures passed { IsPassed facts.now table.now _allocation come.new.items cycle row }
 {
-    let Some(latency) = word_latency(facts, table, row) else {
+    let Some(delay) = delay(facts, table, row) else {
         return;
     };
     if have_come(come, cycle, needs) {
         let class = class_at(facts.graph(), row);
-        put_come(come, class, cycle + latency);
+        put_come(come, class, cycle + delay);
     }
 }
 
@@ -98,26 +103,28 @@ fn pass_rows(
     come: &mut Vec<Option<u32>>,
     facts: &Facts,
     table: &Table,
+    allocation: Allocation,
     needs: &[Items<u32>],
     cycle: u32,
 )
-    requires needs { needs.now ≡ map (start_needs facts.now) (row_numbers facts.now) }
+    requires needs { needs.now ≡ map (start_needs facts.now allocation) (row_numbers facts.now) }
     requires cycle { cycle ≤ most_cycles }
     requires table { IsTable table.now }
     requires graph { IsLaunchGraph facts.now }
     requires long { length come.old.items ≡ next_class facts.now.rows }
-    requires sound { AreSound facts.now table.now come.old.items }
-    requires found { ComesAreFound facts.now table.now come.old.items cycle }
+    requires sound { AreSound facts.now table.now allocation come.old.items }
+    requires found { ComesAreFound facts.now table.now allocation come.old.items cycle }
     ensures long { length come.new.items ≡ length come.old.items }
-    ensures sound { AreSound facts.now table.now come.new.items }
+    ensures sound { AreSound facts.now table.now allocation come.new.items }
     ensures still { StillCome come.old.items come.new.items }
-    ensures passed { (row : ℕ) → IsPassed facts.now table.now come.new.items cycle row }
+    ensures passed { (row : ℕ) → IsPassed facts.now table.now allocation come.new.items cycle row }
 {
     for row in 0..facts.row_numbers() {
         pass_row(
             come,
             facts,
             table,
+            allocation,
             needs[row as usize].as_slice(),
             row,
             cycle,
@@ -130,16 +137,17 @@ pub fn earliest_cycles(
     alloc: Global,
     facts: &Facts,
     table: &Table,
+    allocation: Allocation,
     needs: &[Items<u32>],
 ) -> Result<Vec<Option<u32>>, NoMemory>
-    requires needs { needs.now ≡ map (start_needs facts.now) (row_numbers facts.now) }
+    requires needs { needs.now ≡ map (start_needs facts.now allocation) (row_numbers facts.now) }
     requires table { IsTable table.now }
     requires graph { IsLaunchGraph facts.now }
-    ensures { IfOk result (λ come. IsExactUpTo facts.now table.now come.items most_cycles) }
+    ensures { IfOk result (λ come. IsExactUpTo facts.now table.now allocation come.items most_cycles) }
 {
     let mut come = filled(alloc, None, next_class(facts.graph()))?;
     for cycle in 0..MOST_CYCLES + 1 {
-        pass_rows(&mut come, facts, table, needs, cycle);
+        pass_rows(&mut come, facts, table, allocation, needs, cycle);
     }
     Ok(come)
 }

@@ -22,7 +22,8 @@ pub fn launch_count(facts: &Facts, table: &Table, scope: &Scope, k: u32) -> u64
 {
     let mut count = 0;
     for row in 0..facts.row_numbers() {
-        count += row_count(facts, table, scope, k, row) * destination_count(facts, row);
+        count += row_count(facts, table, scope, k, row)
+            * destination_count(facts, scope.allocation(), row);
     }
     count
 }
@@ -38,7 +39,7 @@ fn destined_at(facts: &Facts, table: &Table, scope: &Scope, k: u32, slot: u32, c
     let mut count = 0;
     for row in 0..facts.row_numbers() {
         if row_has(facts, table, scope, k, slot, cycle, row) {
-            count += destination_count(facts, row);
+            count += destination_count(facts, scope.allocation(), row);
         }
     }
     count

@@ -4,7 +4,7 @@ ghost use Rattle.cycle_encoding.specs.Limits.{most_vars, most_clauses};
 ghost use Rattle.schedule_meaning.specs.Limits.{most_cycles};
 ghost use Rattle.graph_meaning.specs.WellFormed.{IsLaunchGraph};
 ghost use Rattle.machine_table.specs.Tables.{IsTable};
-ghost use Rattle.cycle_encoding.specs.CycleFormula.{first_cycle_in, wants_in, Listed as ListedOf};
+ghost use Rattle.cycle_encoding.specs.CycleFormula.{allocation_in, first_cycle_in, wants_in, Listed as ListedOf};
 ghost use Rattle.cycle_encoding.specs.Encodings.{AreListed};
 ghost use Rattle.cycle_encoding.specs.Faults.{EncodeFaultIs, IsRefusalOf};
 ghost use Rattle.cycle_encoding.specs.CycleFormula.{listed_in};
@@ -117,7 +117,7 @@ pub fn build_cycles(
     ensures plan { IfOk result (λ e. e.plan ≡ record {
       encoding = scope.now.encoding;
       cycles = k;
-      launches = launches_from facts.now table.now k (first_cycle_in scope.now);
+      launches = launches_from facts.now table.now (allocation_in scope.now) k (first_cycle_in scope.now);
       overwritten = before_overwritten (listed_in facts.now table.now k scope.now);
     }) }
 {
@@ -158,15 +158,15 @@ fn add_families(
         seen.now.seen.items seen.now.starts.items }
     requires over { AreOverwrittenVars facts.now over.now.cycles over.now.first over.now.sets.items }
     requires empty { cnf.old ≡ record {
-      vars = before_counters facts.now table.now k (record { launches = launches.now; seen = seen.now.seen.items });
+      vars = before_counters facts.now table.now k (record { allocation = allocation_in scope.now; launches = launches.now; seen = seen.now.seen.items });
       clauses = [];
     } }
     requires vars { (cycle_formula facts.now table.now k
-        (record { launches = launches.now; seen = seen.now.seen.items })).vars ≤ most_vars }
+        (record { allocation = allocation_in scope.now; launches = launches.now; seen = seen.now.seen.items })).vars ≤ most_vars }
     requires clauses { length (cycle_formula facts.now table.now k
-        (record { launches = launches.now; seen = seen.now.seen.items })).clauses ≤ most_clauses }
+        (record { allocation = allocation_in scope.now; launches = launches.now; seen = seen.now.seen.items })).clauses ≤ most_clauses }
     ensures { OnOk result (cnf.new ≡ cycle_formula facts.now table.now k
-        (record { launches = launches.now; seen = seen.now.seen.items })) }
+        (record { allocation = allocation_in scope.now; launches = launches.now; seen = seen.now.seen.items })) }
 {
     counters_count();
     add_targets(alloc, cnf, facts, launches, over)?;

@@ -36,16 +36,20 @@ mod sizes;
 mod slots;
 mod wanting;
 
+pub use buckets::{empty_lists, put_into};
+pub use coming::delay;
 pub use counts::{Sizes, one_size, one_vars, row_count, slot_count};
 pub use encoding::{add_vars, build_cycles, encode, encode_as};
 pub use encodings::Encoding;
 pub use facts::{Facts, next_class};
 pub use families::{add_implied, variables};
-pub use launches::can_begin;
+pub use launches::{can_begin, may_use};
 pub use laws::{
     cycle_clauses_say_rules, cycle_counts_are_found, each_encoding_has_one_list, parts_keep_rules,
 };
+pub use marks::{filled, mark};
 pub use needs_counts::takes_input;
+pub use overwriting::{OverwrittenVars, overwritten_vars, push_lost};
 pub use plans::{EncodeFault, Encoded, VarPlan, launch_of};
 pub use reaching::{destination_count, goes, late, takes_register};
 pub use scopes::Scope;

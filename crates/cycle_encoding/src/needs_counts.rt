@@ -16,7 +16,7 @@ use crate::counts::row_count;
 use crate::reaching::takes;
 use crate::{Facts, Scope};
 use machine_table::{InstrKind, Table};
-use schedule_meaning::{To, class_at, gives_word, operand_at, operand_count, pin_of};
+use schedule_meaning::{Allocation, To, class_at, gives_word, operand_at, operand_count, pin_of};
 
 /// Whether some input of the class has the register.
 fn is_input_at(facts: &Facts, class: u32, register: u8) -> bool
@@ -81,16 +81,16 @@ fn needed_count(facts: &Facts, to: To, row: u32) -> u64
 }
 
 /// The same for those of all pinned sets.
-fn set_needs(facts: &Facts, instr: InstrKind, class: u32, row: u32) -> u64
+fn set_needs(facts: &Facts, allocation: Allocation, instr: InstrKind, class: u32, row: u32) -> u64
     requires graph { IsLaunchGraph facts.now }
-    ensures value { result ≡ sum_by (λ j. counts.one_if (variables.takes facts.now instr class j)
+    ensures value { result ≡ sum_by (λ j. counts.one_if (variables.takes facts.now allocation instr class j)
         * count_by (counts.needs_clause facts.now (SetTo j)) (operands_at facts.now row))
         (variables.pinned_sets facts.now) }
     ensures few { result ≤ 124 }
 {
     let mut count = 0;
     for set in facts.pins() {
-        if takes(facts, instr, class, *set) {
+        if takes(facts, allocation, instr, class, *set) {
             count += needed_count(facts, To::Set(*set), row);
         }
     }
@@ -99,11 +99,11 @@ fn set_needs(facts: &Facts, instr: InstrKind, class: u32, row: u32) -> u64
 
 /// How many operands of a row need a clause, for all its destinations.
 #[tactic(auto, using(crate::proofs::RowPlaces::sum_all, crate::proofs::RowPlaces::sum_pool, crate::proofs::RowPlaces::sum_none))]
-fn row_needs(facts: &Facts, row: u32) -> u64
+fn row_needs(facts: &Facts, allocation: Allocation, row: u32) -> u64
     requires graph { IsLaunchGraph facts.now }
     ensures value { result
         ≡ sum_by (λ to. count_by (counts.needs_clause facts.now to) (operands_at facts.now row))
-        (counts.row_destinations facts.now row) }
+        (counts.row_destinations facts.now allocation row) }
     ensures few { result ≤ 128 }
 {
     let Some(instr) = facts.instr_at(row) else {
@@ -113,7 +113,8 @@ fn row_needs(facts: &Facts, row: u32) -> u64
     if !gives_word(Some(instr)) {
         return own;
     }
-    own + set_needs(facts, instr, class_at(facts.graph(), row), row)
+    let class = class_at(facts.graph(), row);
+    own + set_needs(facts, allocation, instr, class, row)
 }
 
 /// How many clauses say that launches see their operands.
@@ -128,7 +129,7 @@ pub fn needs_count(facts: &Facts, table: &Table, scope: &Scope, k: u32) -> u64
 {
     let mut count = 0;
     for row in 0..facts.row_numbers() {
-        count += row_count(facts, table, scope, k, row) * row_needs(facts, row);
+        count += row_count(facts, table, scope, k, row) * row_needs(facts, scope.allocation(), row);
     }
     count
 }

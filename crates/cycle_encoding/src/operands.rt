@@ -5,10 +5,14 @@ ghost use Rattle.cycle_encoding.specs.Facts.{one_or_none};
 ghost use Rattle.cycle_encoding.specs.Lacking as lacking;
 ghost use Rattle.cycle_encoding.specs.Lacking.{lacked_among, needs_of};
 ghost use Rattle.cycle_encoding.specs.Variables.{row_numbers};
+ghost use Rattle.cycle_encoding.specs.Coming.{memory_needs, start_needs};
+ghost use Rattle.cycle_encoding.specs.Counts.{row_is};
+ghost use Rattle.cycle_encoding.specs.Narrow.{accesses};
 
 use crate::Facts;
 use items::{Items, NoMemory};
-use schedule_meaning::{Operand, operand_at, operand_count};
+use machine_table::InstrKind;
+use schedule_meaning::{Allocation, Operand, memory_class_at, operand_at, operand_count};
 use std::alloc::Global;
 
 /// Which classes are there without a launch.
@@ -31,6 +35,53 @@ pub fn needs(alloc: Global, facts: &Facts, there: There) -> Result<Vec<Items<u32
         needs.push(Items::from(lacked_operands(alloc, facts, there, row)?))?;
     }
     Ok(needs)
+}
+
+/// For each row's number the classes that have to come before a launch of it can start.
+#[tactic(auto, using(crate::proofs::Tables::table_more))]
+pub fn awaited(
+    alloc: Global,
+    facts: &Facts,
+    allocation: Allocation,
+) -> Result<Vec<Items<u32>>, NoMemory>
+    requires rows { length facts.now.rows < 2 ^ 30 }
+    ensures { IfOk result (λ awaited. awaited.items
+        ≡ map (start_needs facts.now allocation) (row_numbers facts.now)) }
+{
+    let mut awaited = Vec::new(alloc);
+    for row in 0..facts.row_numbers() {
+        let mut classes = lacked_operands(alloc, facts, There::AtEntry, row)?;
+        push_memory(&mut classes, facts, allocation, row)?;
+        awaited.push(Items::from(classes))?;
+    }
+    Ok(awaited)
+}
+
+/// Adds the class of the memory that a launch of the row awaits, if it awaits one.
+fn push_memory(
+    awaited: &mut Vec<u32>,
+    facts: &Facts,
+    allocation: Allocation,
+    row: u32,
+) -> Result<(), NoMemory>
+    ensures { OnOk result
+        (awaited.new.items ≡ awaited.old.items ++ memory_needs facts.now allocation row) }
+{
+    let class = memory_class_at(facts.graph(), row);
+    if allocation == Allocation::Live && accesses(facts, row) && class != facts.graph().entry {
+        awaited.push(class)?;
+    }
+    Ok(())
+}
+
+/// Whether the row is a load or a store.
+fn accesses(facts: &Facts, row: u32) -> bool
+    ensures { result ≡ row_is facts.now accesses row }
+{
+    match facts.instr_at(row) {
+        Some(InstrKind::Load(_) | InstrKind::Store(_)) => true,
+        _ => false,
+    }
 }
 
 /// The classes of a row's word operands that a launch of it needs from other launches, in order; the branch has the

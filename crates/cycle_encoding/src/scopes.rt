@@ -7,15 +7,15 @@ ghost use Rattle.cycle_encoding.specs.Coming.{start_needs};
 ghost use Rattle.cycle_encoding.specs.Encodings.{IsScope};
 ghost use Rattle.cycle_encoding.specs.Variables.{row_numbers};
 ghost use Rattle.cycle_encoding.specs.Scoped as scoped;
-ghost use Rattle.cycle_encoding.specs.CycleFormula.{first_cycle_in, wants_in, wide_scope};
+ghost use Rattle.cycle_encoding.specs.CycleFormula.{allocation_in, first_cycle_in, wants_in, wide_scope};
 
 use crate::coming::earliest_cycles;
-use crate::operands::{There, needs};
+use crate::operands::{There, awaited, needs};
 use crate::wanting::wanted;
 use crate::{Encoding, Facts};
 use items::{Items, NoMemory};
 use machine_table::{InstrKind, Table};
-use schedule_meaning::class_at;
+use schedule_meaning::{Allocation, class_at};
 use std::alloc::Global;
 use std::marker::Model;
 
@@ -63,11 +63,12 @@ impl Scope {
         if let Encoding::Wide = encoding {
             return Ok(Scope::wide(alloc));
         }
+        let allocation = encoding.allocation();
         let lasting = needs(alloc, facts, There::Always)?;
         let wants = wanted(alloc, facts, &lasting)?;
-        let entering = needs(alloc, facts, There::AtEntry)?;
-        let come = earliest_cycles(alloc, facts, table, &entering)?;
-        let firsts = first_cycles(alloc, facts, &entering, &come, &wants)?;
+        let awaited = awaited(alloc, facts, allocation)?;
+        let come = earliest_cycles(alloc, facts, table, allocation, &awaited)?;
+        let firsts = first_cycles(alloc, facts, allocation, &awaited, &come, &wants)?;
         Ok(Scope {
             encoding,
             firsts,
@@ -82,13 +83,23 @@ impl Scope {
         self.encoding
     }
 
+    /// How long the launches of the schedules that it asks for keep their registers.
+    pub fn allocation(&self) -> Allocation
+        ensures { result ≡ allocation_in self.now }
+    {
+        self.encoding.allocation()
+    }
+
     /// The cycle from which launches of the row have variables, if any have.
     pub fn first(&self, row: u32) -> Option<u32>
         ensures { result ≡ first_cycle_in self.now row }
     {
         match self.encoding {
             Encoding::Wide => Some(0),
-            Encoding::Narrow | Encoding::Pinned => match self.firsts.get(row as usize) {
+            Encoding::Narrow | Encoding::Pinned | Encoding::Live => match self
+                .firsts
+                .get(row as usize)
+            {
                 Some(first) => *first,
                 None => None,
             },
@@ -101,7 +112,10 @@ impl Scope {
     {
         match self.encoding {
             Encoding::Wide => true,
-            Encoding::Narrow | Encoding::Pinned => match self.wants.get(class as usize) {
+            Encoding::Narrow | Encoding::Pinned | Encoding::Live => match self
+                .wants
+                .get(class as usize)
+            {
                 Some(wants) => *wants,
                 None => false,
             },
@@ -114,18 +128,20 @@ impl Scope {
 fn first_cycles(
     alloc: Global,
     facts: &Facts,
+    allocation: Allocation,
     needs: &[Items<u32>],
     come: &[Option<u32>],
     marks: &[bool],
 ) -> Result<Vec<Option<u32>>, NoMemory>
     requires rows { length facts.now.rows < 2 ^ 30 }
-    requires needs { needs.now ≡ map (start_needs facts.now) (row_numbers facts.now) }
+    requires needs { needs.now ≡ map (start_needs facts.now allocation) (row_numbers facts.now) }
     ensures { IfOk result (λ firsts. firsts.items
-        ≡ map (scoped.first_cycle facts.now come.now marks.now) (row_numbers facts.now)) }
+        ≡ map (scoped.first_cycle facts.now allocation come.now marks.now) (row_numbers facts.now)) }
 {
     let mut firsts = Vec::new(alloc);
     for row in 0..facts.row_numbers() {
-        let first = first_cycle(facts, needs[row as usize].as_slice(), come, marks, row);
+        let awaited = needs[row as usize].as_slice();
+        let first = first_cycle(facts, allocation, awaited, come, marks, row);
         firsts.push(first)?;
     }
     Ok(firsts)
@@ -133,13 +149,14 @@ fn first_cycles(
 
 fn first_cycle(
     facts: &Facts,
+    _allocation: Allocation,
     needs: &[u32],
     come: &[Option<u32>],
     marks: &[bool],
     row: u32,
 ) -> Option<u32>
-    requires needs { needs.now ≡ start_needs facts.now row }
-    ensures { result ≡ scoped.first_cycle facts.now come.now marks.now row }
+    requires needs { needs.now ≡ start_needs facts.now _allocation row }
+    ensures { result ≡ scoped.first_cycle facts.now _allocation come.now marks.now row }
 {
     if is_spoken_of(facts, marks, row) {
         latest(come, needs)

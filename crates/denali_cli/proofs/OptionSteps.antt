@@ -32,36 +32,36 @@ pub at_end : (target : Option Options) (o : Options) (words : List (Bor (List �
 at_end target o words i so_far past =
     sym (ap (set_options o) (ends words i (omega (arith, past)))) ∙ so_far
 
--- ---- the flag
+-- ---- flags
 
 same_options : (x : Option Options) → x ≡ and_then x (λ p. Some p)
 same_options None = refl
 same_options (Some p) = refl
 
 flag_first : (o : Options) (name : List ℕ) (rest : List (List ℕ)) → is_flag name ≡ true
-    → set_options o (name ∷ rest) ≡ and_then (set_flag o) (λ p. set_options p rest)
-flag_first o name [] is = ap (λ b. cond b (set_flag o) None) is ∙ same_options (set_flag o)
+    → set_options o (name ∷ rest) ≡ and_then (set_flag o name) (λ p. set_options p rest)
+flag_first o name [] is = ap (λ b. cond b (set_flag o name) None) is ∙ same_options (set_flag o name)
 flag_first o name (value ∷ rest) is =
-    ap (λ b. cond b (and_then (set_flag o) (λ p. set_options p (value ∷ rest)))
+    ap (λ b. cond b (and_then (set_flag o name) (λ p. set_options p (value ∷ rest)))
     (and_then (set_option o name value) (λ p. set_options p rest))) is
 
 flagged : (target : Option Options) (o : Options) (words : List (Bor (List ℕ))) (i : ℕ) (d : Bor (List ℕ))
     → set_options o (drop i (texts words)) ≡ target → i < length words → is_flag (get_or words i d).now ≡ true
-    → and_then (set_flag o) (λ p. set_options p (drop (i + 1) (texts words))) ≡ target
+    → and_then (set_flag o (get_or words i d).now) (λ p. set_options p (drop (i + 1) (texts words))) ≡ target
 flagged target o words i d so_far lt is =
     sym (ap (set_options o) (begins words i d lt)
     ∙ flag_first o (get_or words i d).now (drop (i + 1) (texts words)) is) ∙ so_far
 
 pub flag_set : (target : Option Options) (o p : Options) (words : List (Bor (List ℕ))) (i : ℕ) (d : Bor (List ℕ))
     → set_options o (drop i (texts words)) ≡ target → i < length words → is_flag (get_or words i d).now ≡ true
-    → Some p ≡ set_flag o → set_options p (drop (i + 1) (texts words)) ≡ target
+    → Some p ≡ set_flag o (get_or words i d).now → set_options p (drop (i + 1) (texts words)) ≡ target
 flag_set target o p words i d so_far lt is set =
     subst (λ r. and_then r (λ q. set_options q (drop (i + 1) (texts words))) ≡ target) (sym set)
     (flagged target o words i d so_far lt is)
 
 pub flag_refused : (target : Option Options) (o : Options) (words : List (Bor (List ℕ))) (i : ℕ) (d : Bor (List ℕ))
     → set_options o (drop i (texts words)) ≡ target → i < length words → is_flag (get_or words i d).now ≡ true
-    → None ≡ set_flag o → None ≡ target
+    → None ≡ set_flag o (get_or words i d).now → None ≡ target
 flag_refused target o words i d so_far lt is set =
     subst (λ r. and_then r (λ q. set_options q (drop (i + 1) (texts words))) ≡ target) (sym set)
     (flagged target o words i d so_far lt is)
@@ -74,7 +74,7 @@ pub odd : (target : Option Options) (o : Options) (words : List (Bor (List ℕ))
 odd target o words i d so_far lt is_pair last =
     sym (ap (set_options o) (begins words i d lt
     ∙ ap (λ rest. (get_or words i d).now ∷ rest) (ends words (i + 1) (omega (arith, last))))
-    ∙ ap (λ b. cond b (set_flag o) None) is_pair) ∙ so_far
+    ∙ ap (λ b. cond b (set_flag o (get_or words i d).now) None) is_pair) ∙ so_far
 
 pair : (target : Option Options) (o : Options) (words : List (Bor (List ℕ))) (i : ℕ) (d e : Bor (List ℕ))
     → set_options o (drop i (texts words)) ≡ target → i < length words → is_flag (get_or words i d).now ≡ false
@@ -89,7 +89,7 @@ pair target o words i d e so_far lt is_pair more =
     sym (ap (set_options o) (begins words i d lt
     ∙ ap (λ ws. name ∷ ws) (begins words (i + 1) e few
     ∙ ap (λ n. value ∷ drop n (texts words)) (two i)))
-    ∙ ap (λ b. cond b (and_then (set_flag o) (λ p. set_options p (value ∷ rest)))
+    ∙ ap (λ b. cond b (and_then (set_flag o name) (λ p. set_options p (value ∷ rest)))
     (and_then (set_option o name value) (λ p. set_options p rest))) is_pair) ∙ so_far
 
 -- the same where the option may be set, and where it may not

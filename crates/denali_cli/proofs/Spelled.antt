@@ -15,7 +15,7 @@ use Rattle.clap.specs.declared.parser.matches.Found.{Found}
 use Rattle.clap.proofs.WalkLemmas.{first_value-rows}
 use Rattle.clap.proofs.OnLiterals.{clap_on_literals}
 use Rattle.denali_cli.specs.Commands.{Command}
-use Rattle.denali_cli.specs.Spellings.{command_in, has_least, value_given, is_taken, matched, program, spelled_command}
+use Rattle.denali_cli.specs.Spellings.{command_in, has_flag, value_given, is_taken, matched, program, spelled_command}
 
 -- ---- the program as clap has it
 
@@ -77,18 +77,18 @@ module _ {A : Type 0} (read : Text → Option A) (found : Found) (name : Text) (
 is_true : Text → Bool
 is_true text = bytes_eq text (codes "true")
 
-module _ (found : Found) (text : Option (Bor Text))
-    (has : option_map (λ s. s.now) text ≡ first_value found (codes "least")) where
-  read_flag : option_map_or is_true (option_map (λ s. s.now) text) false ≡ has_least (rows_of found)
+module _ (found : Found) (name : Text) (text : Option (Bor Text))
+    (has : option_map (λ s. s.now) text ≡ first_value found name) where
+  read_flag : option_map_or is_true (option_map (λ s. s.now) text) false ≡ has_flag name (rows_of found)
   unfolding is_true
-  read_flag = ap (λ o. option_map_or is_true o false) (has ∙ first_value-rows found (codes "least"))
+  read_flag = ap (λ o. option_map_or is_true o false) (has ∙ first_value-rows found name)
 
-  pub flag_present : (word : Bor Text) → text ≡ Some word → bytes_eq word.now (codes "true") ≡ has_least (rows_of found)
+  pub flag_present : (word : Bor Text) → text ≡ Some word → bytes_eq word.now (codes "true") ≡ has_flag name (rows_of found)
   unfolding is_true
   flag_present word some =
       ap (λ o. option_map_or is_true (option_map (λ s. s.now) o) false) (sym some) ∙ read_flag
 
-  pub flag_absent : text ≡ None → false ≡ has_least (rows_of found)
+  pub flag_absent : text ≡ None → false ≡ has_flag name (rows_of found)
   flag_absent none =
       ap (λ o. option_map_or is_true (option_map (λ (s : Bor Text). s.now) o) false) (sym none) ∙ read_flag
 

@@ -10,6 +10,7 @@ use Rattle.axiom_library.specs.Names.{family_named}
 use Rattle.axiom_library.specs.declared.libraries.Library.{Library}
 use Rattle.text_core.specs.Limits.{most_goals}
 use Rattle.schedule_meaning.specs.Limits.{most_cycles}
+use Rattle.schedule_meaning.specs.declared.schedules.Allocation.TheVariants.{Block, Live}
 use Rattle.denali_run.specs.declared.settings.Pick.{Pick}
 use Rattle.denali_run.specs.declared.settings.Pick.TheVariants.{First, Last, Busy}
 use Rattle.denali_run.specs.declared.settings.Settings.{Settings}
@@ -87,7 +88,7 @@ default_conflicts = 20000
 -- ---- the options of `solve`
 
 abbrev pub no_options : Options
-no_options = record { rounds = None; nodes = None; cycles = None; conflicts = None; pick = None; library = None; least = false }
+no_options = record { rounds = None; nodes = None; cycles = None; conflicts = None; pick = None; library = None; least = false; live = false }
 
 -- the numbers that are set are within their ranges
 pub record AreInRange (o : Options) : Type 0 where
@@ -98,7 +99,7 @@ pub record AreInRange (o : Options) : Type 0 where
 
 -- no other option is set than those of rounds and rules
 abbrev pub has_rounds_alone : Options → Bool
-has_rounds_alone o = is_none o.cycles && (is_none o.conflicts && (is_none o.pick && not o.least))
+has_rounds_alone o = is_none o.cycles && (is_none o.conflicts && (is_none o.pick && (not o.least && not o.live)))
 
 abbrev pub default_rounds : ℕ
 default_rounds = 4
@@ -115,4 +116,5 @@ settings_of library o = record {
   conflicts = unwrap_or o.conflicts default_conflicts;
   pick = unwrap_or o.pick First;
   library = unwrap_or o.library library;
+  allocation = if o.live then Live else Block;
 }

@@ -1,11 +1,12 @@
 -- Words in plain form: a command, and then pairs of an option and its value, in any order, each option at most once and
--- each value one of its own, and the flag at most once among them. Source: this project.
-use Rattle.std.specs.Prelude.{List, ℕ, Bool, true, [], ◌∷◌, ◌&&◌, None, Some, is_none, not, codes, unwrap_or, if◌then◌else◌}
+-- each value one of its own, and each flag at most once among them. Source: this project.
+use Rattle.std.specs.Prelude.{List, ℕ, Bool, true, [], ◌∷◌, ◌&&◌, ◌||◌, None, Some, is_none, not, codes, unwrap_or, if◌then◌else◌}
 use Rattle.std.specs.Option.{option_and_then, option_map}
 use Rattle.std.specs.declared.option.Option.{Option}
 use Rattle.std.specs.Str.{bytes_eq}
 use Rattle.axiom_library.specs.Libraries.{all_but_halves, no_library}
 use Rattle.axiom_library.specs.declared.libraries.Library.{Library}
+use Rattle.denali_run.specs.declared.settings.Settings.{Settings}
 use Rattle.denali_cli.specs.Commands.{Command, Solve, SolveLeast, Proc, Check, CheckLeast, Trim, Verify, Run, Gen, Cnf, Lift, Improve, ImproveLeast, Cycles}
 use Rattle.denali_cli.specs.declared.options.Options.{Options}
 use Rattle.denali_cli.specs.OptionValues.{rounds_value, nodes_value, cycles_value, conflicts_value, pick_value, library_value, no_options, settings_of, has_rounds_alone, default_rounds, default_nodes, size_value, default_size, goal_number_value, default_goal, default_cycles, default_conflicts}
@@ -36,20 +37,26 @@ abbrev pub and_then : Option Options → (Options → Option Options) → Option
 and_then None next = None
 and_then (Some o) next = next o
 
--- the flag, which has no value
+-- the flags, which have no value
+abbrev pub is_least : List ℕ → Bool
+is_least name = bytes_eq name (codes "--least")
+
 abbrev pub is_flag : List ℕ → Bool
-is_flag name = bytes_eq name (codes "--least")
+is_flag name = is_least name || bytes_eq name (codes "--live")
 
 -- the options with the flag set, which wasn't set before
-abbrev pub set_flag : Options → Option Options
-set_flag o = if o.least then None else Some (record o { least = true })
+abbrev pub set_flag : Options → List ℕ → Option Options
+set_flag o name =
+    if is_least name
+    then (if o.least then None else Some (record o { least = true }))
+    else (if o.live then None else Some (record o { live = true }))
 
 -- the options with those set that the words have
 abbrev pub set_options : Options → List (List ℕ) → Option Options
 set_options o [] = Some o
-set_options o (name ∷ []) = if is_flag name then set_flag o else None
+set_options o (name ∷ []) = if is_flag name then set_flag o name else None
 set_options o (name ∷ value ∷ words) =
-    if is_flag name then and_then (set_flag o) (λ p. set_options p (value ∷ words))
+    if is_flag name then and_then (set_flag o name) (λ p. set_options p (value ∷ words))
     else and_then (set_option o name value) (λ p. set_options p words)
 
 -- the command of `solve` with these options
@@ -57,14 +64,14 @@ abbrev pub solve_of : Options → Command
 solve_of o =
     if o.least then SolveLeast (settings_of no_library o) else Solve (settings_of no_library o)
 
--- the command of `proc` with these options, which are those of `solve` without the flag
+-- the command of `proc` with these options, which are those of `solve` without `--least`
 abbrev pub proc_of : Options → Option Command
 proc_of o = if o.least then None else Some (Proc (settings_of no_library o))
 
--- the command of `check` with these words behind it: none, or the flag
+-- the command of `check` with these words behind it: none, or `--least`
 abbrev pub check_of : List (List ℕ) → Option Command
 check_of [] = Some Check
-check_of (name ∷ []) = if is_flag name then Some CheckLeast else None
+check_of (name ∷ []) = if is_least name then Some CheckLeast else None
 check_of (name ∷ word ∷ words) = None
 
 -- a command without options
@@ -126,16 +133,22 @@ verify_with rounds nodes library =
 abbrev pub verify_of : Options → Option Command
 verify_of o = if has_rounds_alone o then Some (verify_with o.rounds o.nodes o.library) else None
 
--- the command of `improve` with these options, which are those of `solve`; given words come without axioms, so it has a
--- library of its own
+-- the settings of `improve` with these options: given words come without axioms, so it has a library of its own, and
+-- registers go by live ranges
+abbrev pub improve_settings : Options → Settings
+improve_settings o = settings_of all_but_halves (record o { live = true })
+
 abbrev pub improve_of : Options → Command
-improve_of o =
-    if o.least then ImproveLeast (settings_of all_but_halves o) else Improve (settings_of all_but_halves o)
+improve_of o = if o.least then ImproveLeast (improve_settings o) else Improve (improve_settings o)
+
+-- the command of `improve` with these options, which are those of `solve` without `--live`
+abbrev pub plain_improve : Options → Option Command
+plain_improve o = if o.live then None else Some (improve_of o)
 
 -- no other option is set than the most cycles and the conflicts for each
 abbrev pub has_cycles_alone : Options → Bool
 has_cycles_alone o =
-    is_none o.rounds && (is_none o.nodes && (is_none o.pick && (is_none o.library && not o.least)))
+    is_none o.rounds && (is_none o.nodes && (is_none o.pick && (is_none o.library && (not o.least && not o.live))))
 
 -- the command of `cycles` with these options
 abbrev pub cycles_of : Options → Option Command
@@ -149,7 +162,7 @@ plain_on_words name words =
     if bytes_eq name (codes "lift")
     then alone Lift words
     else if bytes_eq name (codes "improve")
-    then option_map improve_of (set_options no_options words)
+    then option_and_then plain_improve (set_options no_options words)
     else if bytes_eq name (codes "cycles")
     then option_and_then cycles_of (set_options no_options words)
     else None

@@ -23,9 +23,9 @@ abbrev pub with_options : App → List Text → App
 with_options a [] = a
 with_options a (name ∷ names) = with_options (with_rule a (option_rule name)) names
 
--- `--least`, without a value
-abbrev pub least_rule : Rule
-least_rule = record (new_rule (codes "least")) { long = Some (codes "least"); action = Some SetTrue }
+-- `--name`, without a value
+abbrev pub flag_rule : Text → Rule
+flag_rule name = record (new_rule name) { long = Some name; action = Some SetTrue }
 
 -- the options with a value of a command that solves goals
 abbrev pub solving_app : Text → App
@@ -33,10 +33,13 @@ solving_app name = with_options (new_app name)
     (codes "rounds" ∷ codes "nodes" ∷ codes "cycles" ∷ codes "conflicts" ∷ codes "pick" ∷ codes "library" ∷ [])
 
 abbrev pub solve_app : App
-solve_app = with_rule (solving_app (codes "solve")) least_rule
+solve_app = with_rule (with_rule (solving_app (codes "solve")) (flag_rule (codes "least"))) (flag_rule (codes "live"))
+
+abbrev pub proc_app : App
+proc_app = with_rule (solving_app (codes "proc")) (flag_rule (codes "live"))
 
 abbrev pub check_app : App
-check_app = with_rule (new_app (codes "check")) least_rule
+check_app = with_rule (new_app (codes "check")) (flag_rule (codes "least"))
 
 abbrev pub verify_app : App
 verify_app = with_options (new_app (codes "verify")) (codes "rounds" ∷ codes "nodes" ∷ codes "library" ∷ [])
@@ -48,7 +51,7 @@ abbrev pub cnf_app : App
 cnf_app = with_options (new_app (codes "cnf")) (codes "goal" ∷ codes "cycles" ∷ [])
 
 abbrev pub improve_app : App
-improve_app = with_rule (solving_app (codes "improve")) least_rule
+improve_app = with_rule (solving_app (codes "improve")) (flag_rule (codes "least"))
 
 abbrev pub cycles_app : App
 cycles_app = with_options (new_app (codes "cycles")) (codes "cycles" ∷ codes "conflicts" ∷ [])
@@ -63,7 +66,7 @@ with_commands a (command ∷ commands) = with_commands (with_subcommand a comman
 
 abbrev pub program : App
 program = with_commands (of_words (new_app (codes "denali")))
-    (solve_app ∷ solving_app (codes "proc") ∷ check_app ∷ new_app (codes "trim") ∷ verify_app ∷ new_app (codes "run") ∷ gen_app ∷ cnf_app
+    (solve_app ∷ proc_app ∷ check_app ∷ new_app (codes "trim") ∷ verify_app ∷ new_app (codes "run") ∷ gen_app ∷ cnf_app
     ∷ new_app (codes "lift") ∷ improve_app ∷ cycles_app ∷ [])
 
 -- clap finds no fault
@@ -83,8 +86,8 @@ value_given read None = Some None
 value_given read (Some text) = option_map (λ value. Some value) (read text)
 
 -- the flag is given
-abbrev pub has_least : List Row → Bool
-has_least rows = option_map_or (λ text. bytes_eq text (codes "true")) (first_of (codes "least") rows) false
+abbrev pub has_flag : Text → List Row → Bool
+has_flag name rows = option_map_or (λ text. bytes_eq text (codes "true")) (first_of name rows) false
 
 abbrev pub options_in : List Row → Option Options
 options_in rows =
@@ -100,7 +103,8 @@ options_in rows =
       conflicts = conflicts;
       pick = pick;
       library = library;
-      least = has_least rows;
+      least = has_flag (codes "least") rows;
+      live = has_flag (codes "live") rows;
     })
     (value_given library_value (first_of (codes "library") rows)))
     (value_given pick_value (first_of (codes "pick") rows)))
@@ -116,7 +120,7 @@ abbrev pub proc_in : List Row → Option Command
 proc_in rows = option_map (λ o. Proc (settings_of no_library o)) (options_in rows)
 
 abbrev pub check_in : List Row → Command
-check_in rows = if has_least rows then CheckLeast else Check
+check_in rows = if has_flag (codes "least") rows then CheckLeast else Check
 
 abbrev pub verify_in : List Row → Option Command
 verify_in rows =

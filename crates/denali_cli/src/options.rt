@@ -10,7 +10,7 @@ ghost use Rattle.denali_cli.specs.PlainForms as plain;
 
 use crate::commands::Command;
 use axiom_library::{Library, family_named};
-use denali_run::{Pick, Settings};
+use denali_run::{Allocation, Pick, Settings};
 use schedule_meaning::MOST_CYCLES;
 use text_core::decimal;
 
@@ -51,6 +51,7 @@ pub(crate) struct Options {
     pub(crate) pick: Option<Pick>,
     pub(crate) library: Option<Library>,
     pub(crate) least: bool,
+    pub(crate) live: bool,
 }
 
 /// The number that a word is, within two bounds.
@@ -162,28 +163,41 @@ fn with_option(options: Options, name: &str, value: &str) -> Option<Options>
     Some(options)
 }
 
-/// Whether the word is the flag.
-pub(crate) fn is_flag(name: &str) -> bool
-    ensures { result ≡ plain.is_flag name.now }
+pub(crate) fn is_least(name: &str) -> bool
+    ensures { result ≡ plain.is_least name.now }
 {
     name == "--least"
 }
 
+/// Whether the word is a flag.
+fn is_flag(name: &str) -> bool
+    ensures { result ≡ plain.is_flag name.now }
+{
+    is_least(name) || name == "--live"
+}
+
 /// The options with the flag set, which wasn't set before.
-fn with_flag(options: Options) -> Option<Options>
+fn with_flag(options: Options, name: &str) -> Option<Options>
     requires { values.AreInRange options }
-    ensures value { result ≡ plain.set_flag options }
+    ensures value { result ≡ plain.set_flag options name.now }
     ensures within { IfSome result values.AreInRange }
 {
-    if options.least {
-        return None;
-    }
     let mut options = options;
-    options.least = true;
+    if is_least(name) {
+        if options.least {
+            return None;
+        }
+        options.least = true;
+    } else {
+        if options.live {
+            return None;
+        }
+        options.live = true;
+    }
     Some(options)
 }
 
-/// The options that the words set: the flag, and pairs of an option and its value, each once.
+/// The options that the words set: flags, and pairs of an option and its value, each once.
 pub(crate) fn options_of(words: &[&str]) -> Option<Options>
     ensures value { result ≡ plain.set_options values.no_options (map (λ word. word.now) words.now) }
     ensures within { IfSome result values.AreInRange }
@@ -193,7 +207,7 @@ pub(crate) fn options_of(words: &[&str]) -> Option<Options>
     while at < words.len() {
         let name = words[at];
         if is_flag(name) {
-            options = with_flag(options)?;
+            options = with_flag(options, name)?;
             at += 1;
         } else {
             if at + 1 == words.len() {
@@ -232,6 +246,7 @@ fn no_options() -> Options
         pick: None,
         library: None,
         least: false,
+        live: false,
     }
 }
 
@@ -249,6 +264,11 @@ pub(crate) fn settings_of(options: Options, library: Library) -> Settings
         conflicts: options.conflicts.unwrap_or(DEFAULT_CONFLICTS),
         pick: options.pick.unwrap_or(Pick::First),
         library: options.library.unwrap_or(library),
+        allocation: if options.live {
+            Allocation::Live
+        } else {
+            Allocation::Block
+        },
     }
 }
 
@@ -267,12 +287,14 @@ pub(crate) fn solve_of(options: Options) -> Command
 }
 
 /// The command of `improve` with these options. Given words come without axioms, so its own library has all families but
-/// one.
+/// one; and registers go by live ranges.
 pub(crate) fn improve_of(options: Options) -> Command
     requires { values.AreInRange options }
     ensures value { result ≡ plain.improve_of options }
     ensures within { HasValuesInRange result }
 {
+    let mut options = options;
+    options.live = true;
     let settings = settings_of(options, Library::all());
     if options.least {
         Command::ImproveLeast(settings)

@@ -33,16 +33,12 @@ fn with_argument<'a>(
     command.arg(Arg::new(alloc, name).long(name).action(ArgAction::Set))
 }
 
-/// The command with the flag, `--least`.
-fn with_flag<'a>(alloc: Global, command: Parser<'a>) -> Result<Parser<'a>, NoMemory>
-    ensures rule { IfOk result (λ c. app_of c ≡ with_rule (app_of command.entry) spec.least_rule) }
+/// The command with a flag, `--name`.
+fn with_flag<'a>(alloc: Global, command: Parser<'a>, name: &'a str) -> Result<Parser<'a>, NoMemory>
+    ensures rule { IfOk result (λ c. app_of c ≡ with_rule (app_of command.entry) (spec.flag_rule name.entry.now)) }
     ensures local { IfOk result (λ c. (fields_of c).has_globals ≡ (fields_of command.entry).has_globals) }
 {
-    command.arg(
-        Arg::new(alloc, "least")
-            .long("least")
-            .action(ArgAction::SetTrue),
-    )
+    command.arg(Arg::new(alloc, name).long(name).action(ArgAction::SetTrue))
 }
 
 /// A command that solves goals, with its options that have a value.
@@ -69,14 +65,31 @@ fn verify_parser<'a>(alloc: Global) -> Result<Parser<'a>, NoMemory>
     with_argument(alloc, verify, "library")
 }
 
+/// `solve` with its options and flags.
+fn solve_parser<'a>(alloc: Global) -> Result<Parser<'a>, NoMemory>
+    ensures app { IfOk result (λ c. app_of c ≡ spec.solve_app) }
+    ensures local { IfOk result (λ c. (fields_of c).has_globals ≡ false) }
+{
+    let parser = with_flag(alloc, solving_parser(alloc, "solve")?, "least")?;
+    with_flag(alloc, parser, "live")
+}
+
+/// `proc` with its options and its flag.
+fn proc_parser<'a>(alloc: Global) -> Result<Parser<'a>, NoMemory>
+    ensures app { IfOk result (λ c. app_of c ≡ spec.proc_app) }
+    ensures local { IfOk result (λ c. (fields_of c).has_globals ≡ false) }
+{
+    with_flag(alloc, solving_parser(alloc, "proc")?, "live")
+}
+
 /// The program with the commands on goals, for words without its name.
 fn solving_commands<'a>(alloc: Global) -> Result<Parser<'a>, NoMemory>
     ensures { IfOk result (λ c. app_of c
         ≡ spec.with_commands (spec.of_words (new_app (codes "denali")))
-        (spec.solve_app ∷ spec.solving_app (codes "proc") ∷ [])) }
+        (spec.solve_app ∷ spec.proc_app ∷ [])) }
 {
-    let solve = with_flag(alloc, solving_parser(alloc, "solve")?)?;
-    let proc = solving_parser(alloc, "proc")?;
+    let solve = solve_parser(alloc)?;
+    let proc = proc_parser(alloc)?;
     Parser::new(alloc, "denali")
         .no_binary_name(true)
         .subcommand_required(true)
@@ -97,10 +110,10 @@ fn cnf_parser<'a>(alloc: Global) -> Result<Parser<'a>, NoMemory>
 fn first_commands<'a>(alloc: Global) -> Result<Parser<'a>, NoMemory>
     ensures { IfOk result (λ c. app_of c
         ≡ spec.with_commands (spec.of_words (new_app (codes "denali")))
-        (spec.solve_app ∷ spec.solving_app (codes "proc") ∷ spec.check_app ∷ new_app (codes "trim") ∷ [])) }
+        (spec.solve_app ∷ spec.proc_app ∷ spec.check_app ∷ new_app (codes "trim") ∷ [])) }
 {
     let first = solving_commands(alloc)?;
-    let check = with_flag(alloc, Parser::new(alloc, "check"))?;
+    let check = with_flag(alloc, Parser::new(alloc, "check"), "least")?;
     first
         .subcommand(check)?
         .subcommand(Parser::new(alloc, "trim"))
@@ -110,7 +123,7 @@ fn first_commands<'a>(alloc: Global) -> Result<Parser<'a>, NoMemory>
 fn checking_commands<'a>(alloc: Global) -> Result<Parser<'a>, NoMemory>
     ensures { IfOk result (λ c. app_of c
         ≡ spec.with_commands (spec.of_words (new_app (codes "denali")))
-        (spec.solve_app ∷ spec.solving_app (codes "proc") ∷ spec.check_app ∷ new_app (codes "trim") ∷ spec.verify_app
+        (spec.solve_app ∷ spec.proc_app ∷ spec.check_app ∷ new_app (codes "trim") ∷ spec.verify_app
         ∷ new_app (codes "run") ∷ [])) }
 {
     let first = first_commands(alloc)?;
@@ -133,7 +146,7 @@ fn cycles_parser<'a>(alloc: Global) -> Result<Parser<'a>, NoMemory>
 fn writing_commands<'a>(alloc: Global) -> Result<Parser<'a>, NoMemory>
     ensures { IfOk result (λ c. app_of c
         ≡ spec.with_commands (spec.of_words (new_app (codes "denali")))
-        (spec.solve_app ∷ spec.solving_app (codes "proc") ∷ spec.check_app ∷ new_app (codes "trim") ∷ spec.verify_app
+        (spec.solve_app ∷ spec.proc_app ∷ spec.check_app ∷ new_app (codes "trim") ∷ spec.verify_app
         ∷ new_app (codes "run") ∷ spec.gen_app ∷ spec.cnf_app ∷ [])) }
 {
     let first = checking_commands(alloc)?;
@@ -146,11 +159,11 @@ fn writing_commands<'a>(alloc: Global) -> Result<Parser<'a>, NoMemory>
 fn improving_commands<'a>(alloc: Global) -> Result<Parser<'a>, NoMemory>
     ensures { IfOk result (λ c. app_of c
         ≡ spec.with_commands (spec.of_words (new_app (codes "denali")))
-        (spec.solve_app ∷ spec.solving_app (codes "proc") ∷ spec.check_app ∷ new_app (codes "trim") ∷ spec.verify_app
+        (spec.solve_app ∷ spec.proc_app ∷ spec.check_app ∷ new_app (codes "trim") ∷ spec.verify_app
         ∷ new_app (codes "run") ∷ spec.gen_app ∷ spec.cnf_app ∷ new_app (codes "lift") ∷ spec.improve_app ∷ [])) }
 {
     let first = writing_commands(alloc)?;
-    let improver = with_flag(alloc, solving_parser(alloc, "improve")?)?;
+    let improver = with_flag(alloc, solving_parser(alloc, "improve")?, "least")?;
     first
         .subcommand(Parser::new(alloc, "lift"))?
         .subcommand(improver)
@@ -199,10 +212,10 @@ fn library_given(matches: &ArgMatches<'_>, name: &str) -> Option<Option<Library>
 }
 
 /// Whether the flag is given.
-fn has_least(matches: &ArgMatches<'_>) -> bool
-    ensures { result ≡ spec.has_least (rows_of (found_of matches.now)) }
+fn has_flag(matches: &ArgMatches<'_>, name: &str) -> bool
+    ensures { result ≡ spec.has_flag name.now (rows_of (found_of matches.now)) }
 {
-    match matches.get_str("least") {
+    match matches.get_str(name) {
         Some(word) => word == "true",
         None => false,
     }
@@ -219,7 +232,8 @@ fn options_in(matches: &ArgMatches<'_>) -> Option<Options>
     let conflicts = number_given(matches, "conflicts", 1, MOST_CONFLICTS)?;
     let pick = pick_given(matches, "pick")?;
     let library = library_given(matches, "library")?;
-    let least = has_least(matches);
+    let least = has_flag(matches, "least");
+    let live = has_flag(matches, "live");
     Some(Options {
         rounds,
         nodes,
@@ -228,6 +242,7 @@ fn options_in(matches: &ArgMatches<'_>) -> Option<Options>
         pick,
         library,
         least,
+        live,
     })
 }
 
@@ -254,7 +269,7 @@ fn check_in(matches: &ArgMatches<'_>) -> Command
     ensures value { result ≡ spec.check_in (rows_of (found_of matches.now)) }
     ensures within { HasValuesInRange result }
 {
-    if has_least(matches) {
+    if has_flag(matches, "least") {
         Command::CheckLeast
     } else {
         Command::Check

@@ -9,7 +9,7 @@ ghost use Rattle.denali_cli.specs.Said.{asked_by};
 
 use crate::commands::Command;
 use crate::options::{
-    DEFAULT_CONFLICTS, DEFAULT_CYCLES, MOST_GOALS, Options, cnf_of, improve_of, is_flag,
+    DEFAULT_CONFLICTS, DEFAULT_CYCLES, MOST_GOALS, Options, cnf_of, improve_of, is_least,
     options_of, settings_of, size_in, solve_of, value_in, verify_with,
 };
 use crate::spelling::spelled;
@@ -31,7 +31,7 @@ fn alone(command: Command, words: &[&str]) -> Option<Command>
     }
 }
 
-/// The command of `proc` with these options, which are those of `solve` without the flag.
+/// The command of `proc` with these options, which are those of `solve` without `--least`.
 fn proc_of(options: Options) -> Option<Command>
     requires { AreInRange options }
     ensures value { result ≡ plain.proc_of options }
@@ -43,14 +43,14 @@ fn proc_of(options: Options) -> Option<Command>
     Some(Command::Proc(settings_of(options, Library::none())))
 }
 
-/// The command of `check` with these words behind it: none, or the flag.
+/// The command of `check` with these words behind it: none, or `--least`.
 fn check_of(words: &[&str]) -> Option<Command>
     ensures value { result ≡ plain.check_of (map (λ word. word.now) words.now) }
     ensures within { IfSome result HasValuesInRange }
 {
     match words {
         [] => Some(Command::Check),
-        [name] if is_flag(name) => Some(Command::CheckLeast),
+        [name] if is_least(name) => Some(Command::CheckLeast),
         _ => None,
     }
 }
@@ -134,7 +134,7 @@ fn verify_of(options: Options) -> Option<Command>
     if options.cycles.is_some() || options.conflicts.is_some() {
         return None;
     }
-    if options.pick.is_some() || options.least {
+    if options.pick.is_some() || options.least || options.live {
         return None;
     }
     Some(verify_with(options.rounds, options.nodes, options.library))
@@ -149,13 +149,28 @@ fn cycles_of(options: Options) -> Option<Command>
     if options.rounds.is_some() || options.nodes.is_some() {
         return None;
     }
-    if options.pick.is_some() || options.library.is_some() || options.least {
+    if options.pick.is_some() || options.library.is_some() {
+        return None;
+    }
+    if options.least || options.live {
         return None;
     }
     Some(Command::Cycles {
         cycles: options.cycles.unwrap_or(DEFAULT_CYCLES),
         conflicts: options.conflicts.unwrap_or(DEFAULT_CONFLICTS),
     })
+}
+
+/// The command of `improve` with these options, which are those of `solve` without `--live`.
+fn plain_improve(options: Options) -> Option<Command>
+    requires { AreInRange options }
+    ensures value { result ≡ plain.plain_improve options }
+    ensures within { IfSome result HasValuesInRange }
+{
+    if options.live {
+        return None;
+    }
+    Some(improve_of(options))
 }
 
 /// The command on machine words that the words name, in plain form.
@@ -167,7 +182,7 @@ fn on_machine_words(name: &str, words: &[&str]) -> Option<Command>
         alone(Command::Lift, words)
     } else if name == "improve" {
         let options = options_of(words)?;
-        Some(improve_of(options))
+        plain_improve(options)
     } else if name == "cycles" {
         let options = options_of(words)?;
         cycles_of(options)

@@ -1,5 +1,5 @@
 // What some words ask for, by the definitions.
-ghost use Rattle.std.specs.Prelude.{◌≡◌, [], ◌∷◌, None, Some, codes};
+ghost use Rattle.std.specs.Prelude.{◌≡◌, [], ◌∷◌, None, Some, codes, true};
 ghost use Rattle.denali_run.specs.declared.settings.Pick.TheVariants.{Last, Busy};
 ghost use Rattle.axiom_library.specs.Libraries.{no_library};
 ghost use Rattle.denali_cli.specs.Commands.{Solve, SolveLeast, Proc, Check, CheckLeast, Trim, Verify, Run, Gen, Cnf};
@@ -35,6 +35,10 @@ pub fn worked_words()
         ≡ Some (SolveLeast (settings_of no_library (record no_options { rounds = Some 3 }))) }
     ensures plain_flag { spelled_command (codes "solve" ∷ codes "--rounds" ∷ codes "3" ∷ codes "--least" ∷ [])
         ≡ command_of (codes "solve" ∷ codes "--rounds" ∷ codes "3" ∷ codes "--least" ∷ []) }
+    ensures solves_live { command_of (codes "solve" ∷ codes "--live" ∷ codes "--least" ∷ [])
+        ≡ Some (SolveLeast (settings_of no_library (record no_options { live = true }))) }
+    ensures links_live { command_of (codes "proc" ∷ codes "--cycles=9" ∷ codes "--live" ∷ [])
+        ≡ Some (Proc (settings_of no_library (record no_options { cycles = Some 9; live = true }))) }
     ensures trims { command_of (codes "trim" ∷ []) ≡ Some Trim }
     ensures verifies { command_of (codes "verify" ∷ []) ≡ Some (Verify 4 512 no_library) }
     ensures joined_rounds { command_of (codes "verify" ∷ codes "--rounds=3" ∷ []) ≡ Some (Verify 3 512 no_library) }
@@ -60,6 +64,8 @@ pub fn refused_words()
     ensures no_flag_of_procs { command_of (codes "proc" ∷ codes "--least" ∷ []) ≡ None }
     ensures checks_least_once { command_of (codes "check" ∷ codes "--least" ∷ codes "--least" ∷ []) ≡ None }
     ensures flag_twice { command_of (codes "solve" ∷ codes "--least" ∷ codes "--least" ∷ []) ≡ None }
+    ensures live_twice { command_of (codes "solve" ∷ codes "--live" ∷ codes "--live" ∷ []) ≡ None }
+    ensures live_anyway { command_of (codes "improve" ∷ codes "--live" ∷ []) ≡ None }
     ensures flag_with_value { command_of (codes "solve" ∷ codes "--least=true" ∷ []) ≡ None }
     ensures no_flag_of_codes { command_of (codes "verify" ∷ codes "--least" ∷ []) ≡ None }
     ensures no_option_of_checks { command_of (codes "check" ∷ codes "--cycles=3" ∷ []) ≡ None }

@@ -30,6 +30,7 @@ use Rattle.register_assign.specs.Obeys.{loads}
 use Rattle.register_assign.specs.Outcomes.{DoesAsGraphSays, Falls, Exits, KeepsOthers, entry_state, instrs_of}
 use Rattle.register_assign.specs.declared.listings.Item.{Item}
 use Rattle.register_assign.specs.declared.listings.Where.{Where}
+use Rattle.schedule_meaning.specs.declared.schedules.Allocation.{Allocation}
 use Rattle.schedule_meaning.specs.declared.schedules.Launch.{Launch}
 use Rattle.saturation.specs.StandsFor.{StandsFor, HasValues, IsGuardOf, IsInputClass, IsSetClass, HasGuardValue, HasSetValue, has_select}
 use Rattle.denali_run.specs.GoalOutcomes.{Computes, EndsWith, DoesAsSaid, IsPinOf, KeepsOtherRegisters, LeavesByBranch}
@@ -146,7 +147,7 @@ pin_of_target declared g r (c ∷ cs) (s ∷ ss) z pin =
     ]
 
 module _ (declared : List DeclaredOp) (g : LaunchGraph) (world : World) (value : ℕ → Value) (at : ℕ → Value) (table : Table)
-    (ordered : List Launch) where
+    (al : Allocation) (ordered : List Launch) where
   -- a pinned set's register has its value
   abbrev HasOwnClass : SetClass → Type 0
   HasOwnClass c = (r : ℕ) → c.pin ≡ Some r → at r ≡ value c.class
@@ -155,13 +156,13 @@ module _ (declared : List DeclaredOp) (g : LaunchGraph) (world : World) (value :
   HasOwn s v = (r : ℕ) → s.pin ≡ Some r → at r ≡ v.value
 
   abbrev place : SetClass → Where
-  place c = record { name = c.name; reg = target_place g table ordered c }
+  place c = record { name = c.name; reg = target_place g table al ordered c }
 
   own_classes : (cs : List SetClass) → AllZip (InClass declared g world value at) (map place cs) cs → All HasOwnClass cs
   own_classes [] z = All-nil HasOwnClass
   own_classes (c ∷ cs) z =
       All-cons HasOwnClass c cs
-      (λ r e. subst (λ (o : Option ℕ). at (unwrap_or o (target_register g table ordered c.class)) ≡ value c.class) e z.0.1)
+      (λ r e. subst (λ (o : Option ℕ). at (unwrap_or o (target_register g table al ordered c.class)) ≡ value c.class) e z.0.1)
       (own_classes cs z.1)
 
   one_own : (b : Bool) (c : SetClass) (s : TargetTree) (cs : List SetClass) (ss : List TargetTree) → c.pin ≡ s.pin
@@ -202,8 +203,8 @@ inputs_kept declared g R (c ∷ cs) (i ∷ is) z h =
 -- ---- both ends
 
 module _ (input : InputTree) (goal : GoalTree) (g : LaunchGraph) (stands : StandsFor input goal g)
-    (table : Table) (ls : List Launch) (items : List Item) (words : List ℕ) (wheres : List Where)
-    (listing : IsListing g table ls items wheres) (right : DoesAsGraphSays g items words wheres) where
+    (table : Table) (al : Allocation) (ls : List Launch) (items : List Item) (words : List ℕ) (wheres : List Where)
+    (listing : IsListing g table al ls items wheres) (right : DoesAsGraphSays g items words wheres) where
   others_kept : (s : MachineState) (world : World) → KeepsOthers g world s → KeepsOtherRegisters (expanded goal) world s
   others_kept s world kept = λ r free none. kept r (subst (λ (pool : List ℕ). ¬ Contains pool r) (sym stands.of.pool) free)
       (λ pin. none (pin_of_target input.ops g r g.sets (expanded goal).sets stands.of.sets pin))
@@ -216,9 +217,9 @@ module _ (input : InputTree) (goal : GoalTree) (g : LaunchGraph) (stands : Stand
     runs = f.runs;
     targets = all_targets input.ops g world value (λ r. word (slice_index f.state.registers r)) g.sets (expanded goal).sets
         stands.of.sets has.sets wheres f.targets;
-    pins = own_targets input.ops g world value (λ r. word (slice_index f.state.registers r)) table listing.ordered g.sets
+    pins = own_targets input.ops g world value (λ r. word (slice_index f.state.registers r)) table al listing.ordered g.sets
         (expanded goal).sets stands.of.sets has.sets
-        (own_classes input.ops g world value (λ r. word (slice_index f.state.registers r)) table listing.ordered (word_targets g)
+        (own_classes input.ops g world value (λ r. word (slice_index f.state.registers r)) table al listing.ordered (word_targets g)
         (subst (λ (ps : List Where). AllZip (InClass input.ops g world value (λ r. word (slice_index f.state.registers r))) ps
         (word_targets g)) listing.wheres_are f.targets));
     memory_is = f.memory_is

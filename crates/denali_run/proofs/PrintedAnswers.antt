@@ -24,6 +24,7 @@ use Rattle.register_assign.specs.declared.listings.Where.{Where}
 use Rattle.graph_meaning.specs.declared.stops.Stop.{Stop}
 use Rattle.graph_meaning.specs.declared.stops.Stop.TheVariants.{Quiet, Rounds, Full}
 use Rattle.schedule_meaning.specs.Launches.{pin_of}
+use Rattle.schedule_meaning.specs.declared.schedules.Allocation.{Allocation}
 use Rattle.schedule_meaning.specs.declared.schedules.Launch.{Launch}
 use Rattle.schedule_meaning.specs.declared.schedules.To.{To}
 use Rattle.schedule_meaning.specs.declared.schedules.To.TheVariants.{Pool, Set}
@@ -37,7 +38,6 @@ use Rattle.denali_run.specs.MatchedGoals.{IsMatched, IsSettings}
 use Rattle.denali_run.specs.Right.{AreRefutedBelow, IsTooFew, one_less, Right}
 use Rattle.denali_run.specs.declared.results.Answered.{Answered}
 use Rattle.denali_run.specs.declared.results.Answered.TheVariants.{Scheduled, Nowhere, SpentConflicts, SpentSize, NoWorld}
-use Rattle.cycle_encoding.specs.declared.encodings.Encoding.{Encoding}
 use Rattle.denali_run.specs.declared.results.Matched.{Matched}
 use Rattle.denali_run.specs.declared.settings.Settings.{Settings}
 use Rattle.denali_run.proofs.LineWords.{AreWords, no_words, a_word, can_be, CanBeLines, no_lines, a_line, lines_from, lines_of, and_lines}
@@ -59,10 +59,10 @@ module _ (laws : Laws) where
         (a_word (laws.name w.name place.0)
         (a_word (let low = place.1 in laws.number w.reg (omega (arith, low))) no_words)))
 
-    pub where_lines : (table : Table) (ls : List Launch) (items : List Item) (wheres : List Where)
-        → IsListing g table ls items wheres → CanBeLines (map where_words wheres)
-    where_lines table ls items wheres listing =
-        lines_of where_words IsPlace place_line wheres (are_places g is table ls items wheres listing)
+    pub where_lines : (table : Table) (al : Allocation) (ls : List Launch) (items : List Item) (wheres : List Where)
+        → IsListing g table al ls items wheres → CanBeLines (map where_words wheres)
+    where_lines table al ls items wheres listing =
+        lines_of where_words IsPlace place_line wheres (are_places g is table al ls items wheres listing)
 
   -- ---- launches and words
 
@@ -114,26 +114,26 @@ module _ (laws : Laws) where
       (subst (All CanBeLine) (words_placed 0 (map line_words lines))
       (laws.each 0 _ _ (laws.refutation_lines 0 lines can.0))))
 
-  few_readable : (f : ℕ → Formula) (g : LaunchGraph) (table : Table) (conflicts j : ℕ) (lines : List Line)
-      → conflicts ≤ 1000000 → IsTooFew f g table conflicts j lines
+  few_readable : (f : ℕ → Formula) (g : LaunchGraph) (table : Table) (al : Allocation) (conflicts j : ℕ) (lines : List Line)
+      → conflicts ≤ 1000000 → IsTooFew f g table al conflicts j lines
       → All IsReadableLine lines × (length lines < 2 ^ 31)
-  few_readable f g table conflicts j lines most refuted =
+  few_readable f g table al conflicts j lines most refuted =
       readable laws.accepted (f j) lines refuted.none_fits.within refuted.refutes.accepted
       (let few : length lines ≤ conflicts = refuted.few in omega (arith, few, most))
 
-  below_can : (f : ℕ → Formula) (g : LaunchGraph) (table : Table) (conflicts k : ℕ) (lines : Option Lines) → k ≤ most_cycles
-      → conflicts ≤ 1000000 → AreRefutedBelow f g table conflicts k lines → CanBeLines (below_lines k lines)
-  below_can f g table conflicts k None low most are = no_lines
-  below_can f g table conflicts k (Some lines) low most (one_less {k = j} refuted) =
+  below_can : (f : ℕ → Formula) (g : LaunchGraph) (table : Table) (al : Allocation) (conflicts k : ℕ) (lines : Option Lines) → k ≤ most_cycles
+      → conflicts ≤ 1000000 → AreRefutedBelow f g table al conflicts k lines → CanBeLines (below_lines k lines)
+  below_can f g table al conflicts k None low most are = no_lines
+  below_can f g table al conflicts k (Some lines) low most (one_less {k = j} refuted) =
       block_lines (codes "refute") (j + 1 - 1) lines.lines (record { some = λ e. cc; printed = refl })
-      (omega (arith, low)) (few_readable f g table conflicts j lines.lines most refuted)
+      (omega (arith, low)) (few_readable f g table al conflicts j lines.lines most refuted)
 
-  refuted_can : (f : ℕ → Formula) (g : LaunchGraph) (table : Table) (conflicts k after : ℕ) (lines : Lines)
-      → after ≡ k + 1 → k ≤ most_cycles → conflicts ≤ 1000000 → AreRefutedBelow f g table conflicts after (Some lines)
+  refuted_can : (f : ℕ → Formula) (g : LaunchGraph) (table : Table) (al : Allocation) (conflicts k after : ℕ) (lines : Lines)
+      → after ≡ k + 1 → k ≤ most_cycles → conflicts ≤ 1000000 → AreRefutedBelow f g table al conflicts after (Some lines)
       → CanBeLines (refute_lines k lines.lines)
-  refuted_can f g table conflicts k after lines is low most (one_less {k = j} refuted) =
+  refuted_can f g table al conflicts k after lines is low most (one_less {k = j} refuted) =
       block_lines (codes "refute") k lines.lines (record { some = λ e. cc; printed = refl }) (omega (arith, low))
-      (few_readable f g table conflicts j lines.lines most refuted)
+      (few_readable f g table al conflicts j lines.lines most refuted)
 
   -- ---- graphs
 
@@ -156,7 +156,7 @@ module _ (laws : Laws) where
   number_line : (a : List ℕ) (k : ℕ) → IsLineWord a → k ≤ most_cycles → CanBeLine (a ∷ decimal k ∷ [])
   number_line a k is low = can_be (a_word is (a_word (laws.number k (omega (arith, low))) no_words))
 
-  module _ (e : Encoding) (input : InputTree) (s : Settings) (is : IsInput input) (set : IsSettings s) where
+  module _ (input : InputTree) (s : Settings) (is : IsInput input) (set : IsSettings s) where
     pub rounds_low : (goal : GoalTree) (m : Matched) → IsMatched input goal s m → m.rounds < 2 ^ 31
     rounds_low goal m matched =
         (let few = set.rounds in let reached : m.rounds ≤ s.rounds = matched.reached.0 in omega (arith, few, reached))
@@ -167,7 +167,7 @@ module _ (laws : Laws) where
     front : (goal : GoalTree) (m : Matched) → IsMatched input goal s m → CanBeLines (matched_lines m)
     front goal m matched = matched_can m matched.graph (rounds_low goal m matched)
 
-    answered_can : (goal : GoalTree) → length goal.sets ≤ 16 → (r : Answered) → Right e input goal s r → CanBeLines (answered_lines input.table r)
+    answered_can : (goal : GoalTree) → length goal.sets ≤ 16 → (r : Answered) → Right input goal s r → CanBeLines (answered_lines input.table r)
     answered_can goal small (Scheduled f) right =
         let low : f.k ≤ most_cycles = cycles_low f.k right.1 in
         and_lines _ (front goal f.matched right.0)
@@ -176,18 +176,18 @@ module _ (laws : Laws) where
         (lines_of (launch_words input.table f.matched.graph) (IsLaunch input.table f.matched.graph)
         (launch_line input.table is.slots f.matched.graph) f.schedule.launches
         (are_placed f.matched.graph right.0.graph (few_sets input goal f.matched.graph right.0.stands small) laws.slots
-        input.table is.table f.k f.schedule.launches low right.2.fits))
+        input.table is.table s.allocation f.k f.schedule.launches low right.2.fits))
         (and_lines _ (word_lines (instrs_of f.listing.items) f.words right.2.low right.2.words)
         (and_lines _
-        (where_lines f.matched.graph right.0.graph input.table f.schedule.launches f.listing.items f.listing.wheres
+        (where_lines f.matched.graph right.0.graph input.table s.allocation f.schedule.launches f.listing.items f.listing.wheres
         right.2.listing.is)
-        (below_can right.3.clauses_for f.matched.graph input.table s.conflicts f.k f.refutation low set.conflicts.1
+        (below_can right.3.clauses_for f.matched.graph input.table s.allocation s.conflicts f.k f.refutation low set.conflicts.1
         right.3.holds.1.refuted)))))
     answered_can goal small (Nowhere m) right =
         let low : m.k ≤ most_cycles = cycles_low m.k (let same = right.1 in omega (arith, same)) in
         and_lines _ (front goal m.matched right.0)
         (a_line (number_line (codes "none") m.k (record { some = λ e. cc; printed = refl }) low)
-        (refuted_can right.2.clauses_for m.matched.graph input.table s.conflicts m.k (m.k + 1) m.refutation refl low
+        (refuted_can right.2.clauses_for m.matched.graph input.table s.allocation s.conflicts m.k (m.k + 1) m.refutation refl low
         set.conflicts.1 right.2.holds.refuted))
     answered_can goal small (SpentConflicts t) right =
         let low : t.k ≤ most_cycles = cycles_low t.k right.1 in
@@ -197,7 +197,7 @@ module _ (laws : Laws) where
         (a_word (record { some = λ e. cc; printed = refl })
         (a_word (record { some = λ e. cc; printed = refl })
         (a_word (laws.number t.k (omega (arith, low))) no_words))))
-        (and_lines _ (below_can right.2.clauses_for t.matched.graph input.table s.conflicts t.k t.refutation low set.conflicts.1
+        (and_lines _ (below_can right.2.clauses_for t.matched.graph input.table s.allocation s.conflicts t.k t.refutation low set.conflicts.1
         right.2.holds.2.refuted)
         (block_lines (codes "lemmas") t.k t.lemmas.lines (record { some = λ e. cc; printed = refl }) (omega (arith, low))
         (readable laws.accepted (right.2.clauses_for t.k) t.lemmas.lines right.2.holds.0
@@ -211,7 +211,7 @@ module _ (laws : Laws) where
         (a_word (record { some = λ e. cc; printed = refl })
         (a_word (laws.number l.k (omega (arith, low)))
         (a_word (laws.number l.vars right.2) (a_word (laws.number l.clauses right.3) no_words))))))
-        (below_can right.4.clauses_for l.matched.graph input.table s.conflicts l.k l.refutation low set.conflicts.1
+        (below_can right.4.clauses_for l.matched.graph input.table s.allocation s.conflicts l.k l.refutation low set.conflicts.1
         right.4.holds.1.refuted))
     answered_can goal small (NoWorld class a b) right =
         a_line
@@ -221,7 +221,7 @@ module _ (laws : Laws) where
         (a_word (laws.number a right.2) (a_word (laws.number b right.3) no_words)))))
         no_lines
 
-    goal_can : (goal : GoalTree) → length goal.sets ≤ 16 → (r : Answered) → IsName goal.name → Right e input goal s r
+    goal_can : (goal : GoalTree) → length goal.sets ≤ 16 → (r : Answered) → IsName goal.name → Right input goal s r
         → CanBeLines (goal_lines input.table goal.name r)
     goal_can goal small r named right =
         a_line (can_be (a_word (record { some = λ e. cc; printed = refl }) (a_word (laws.name goal.name named) no_words)))
@@ -230,7 +230,7 @@ module _ (laws : Laws) where
 
     -- the lines of all goals
     pub goals_can : (goals : List GoalTree) (results : List Answered) → All (IsGoal input.ops) goals
-        → AllZip (λ goal answered. Right e input goal s answered) goals results
+        → AllZip (λ goal answered. Right input goal s answered) goals results
         → CanBeLines (goals_lines input.table goals results)
     goals_can [] [] each right = no_lines
     goals_can [] (r ∷ rs) each right = absurd right

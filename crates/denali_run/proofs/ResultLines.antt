@@ -2,7 +2,6 @@
 use Rattle.std.proofs.Common.{◌≡◌, ℕ, ◌-◌, List, [], ◌∷◌, ◌++◌, map, refl, sym, ap, ◌∙◌, ◌+◌, arith, append_assoc, Option, None, Some}
 use Rattle.std.specs.List.{flat_map}
 use Rattle.std.proofs.lemmas.List.Concat.{flat_map-cons}
-use Rattle.axiom_library.specs.declared.libraries.Library.{Library}
 use Rattle.answer_texts.specs.AnswerLines.{launch_words, word_words, where_words, refute_lines, lemmas_lines, rounds_words, scheduled_words, none_words, conflicts_words, size_words, noworld_words, goal_words, end_words, head_lines, answer_lines}
 use Rattle.answer_texts.specs.AnswerLines as format
 use Rattle.cnf_core.specs.declared.line.Lines.{Lines}
@@ -13,8 +12,9 @@ use Rattle.text_core.specs.LineTexts.{Words}
 use Rattle.denali_run.specs.ClaimedResults.{answer_to, claimed, encoding_number, goals_claimed, version_of}
 use Rattle.denali_run.specs.declared.results.Answered.{Answered}
 use Rattle.denali_run.specs.declared.results.Answered.TheVariants.{Scheduled, Nowhere, SpentConflicts, SpentSize, NoWorld}
-use Rattle.cycle_encoding.specs.declared.encodings.Encoding.{Encoding}
 use Rattle.denali_run.specs.declared.results.Matched.{Matched}
+use Rattle.denali_run.specs.declared.settings.Settings.{Settings}
+use Rattle.denali_run.specs.Encodings.{encoding_in}
 
 -- those for k - 1 cycles, where there are some
 abbrev pub below_lines : ℕ → Option Lines → List Words
@@ -91,11 +91,12 @@ same_goals table (goal ∷ goals) (r ∷ rs) =
     ∙ ap (λ t. format.goal_lines table (claimed goal.name r) ++ t) (same_goals table goals rs)
     ∙ sym (flat_map-cons (format.goal_lines table) (claimed goal.name r) (goals_claimed goals rs))
 
-abbrev pub whole_head : Encoding → Library → InputTree → List Words
-whole_head e library input = head_lines (version_of e) (encoding_number e) input.table input.builtin library
+abbrev pub whole_head : Settings → InputTree → List Words
+whole_head s input =
+    head_lines (version_of (encoding_in s)) (encoding_number (encoding_in s)) input.table input.builtin s.library
 
-pub same_answer : (e : Encoding) (library : Library) (input : InputTree) (results : List Answered)
-    → whole_head e library input ++ goals_lines input.table input.goals results
-    ≡ answer_lines (answer_to e library input results)
-same_answer e library input results =
-    ap (λ t. whole_head e library input ++ t) (same_goals input.table input.goals results)
+pub same_answer : (s : Settings) (input : InputTree) (results : List Answered)
+    → whole_head s input ++ goals_lines input.table input.goals results
+    ≡ answer_lines (answer_to s input results)
+same_answer s input results =
+    ap (λ t. whole_head s input ++ t) (same_goals input.table input.goals results)

@@ -1,5 +1,5 @@
 -- Numbers of cycles in rising order: what each came to, and what the search has when it stops.
-use Rattle.std.proofs.Common.{◌≡◌, ℕ, ◌+◌, ◌<◌, ◌≤◌, ◌^◌, ◌⊎◌, inl, inr, List, length, Option, Some, None, Bool, true, false, nat_lt, refl, sym, subst, ◌∙◌, arith}
+use Rattle.std.proofs.Common.{◌≡◌, ℕ, ◌+◌, ◌<◌, ◌≤◌, ◌^◌, ◌⊎◌, inl, inr, List, length, Option, Some, None, Bool, true, false, nat_lt, refl, sym, ap, subst, ◌∙◌, arith}
 use Rattle.std.proofs.Common.{Result, Ok, Err}
 use Rattle.std.specs.Prelude.{All, Decides, IfOk}
 use Rattle.std.proofs.lemmas.Bool.{false≢true}
@@ -10,8 +10,8 @@ use Rattle.cnf_core.specs.Outcome.{IsSpent}
 use Rattle.cnf_core.specs.Refutation.{Refutes, HaveNoSolution}
 use Rattle.cnf_core.specs.declared.line.Line.{Line}
 use Rattle.cnf_core.specs.declared.line.Lines.{Lines}
-use Rattle.cycle_encoding.specs.CycleFormula.{Scope}
-use Rattle.cycle_encoding.specs.CycleFormula.{listed_in}
+use Rattle.cycle_encoding.specs.Allocations.{allocation_of}
+use Rattle.cycle_encoding.specs.CycleFormula.{Scope, allocation_in, listed_in}
 use Rattle.cycle_encoding.specs.Encodings.{IsScope}
 use Rattle.cycle_encoding.specs.Faults.{EncodeFaultIs}
 use Rattle.cycle_encoding.specs.Plans.{IsTooLarge, PassesLimit}
@@ -26,12 +26,14 @@ use Rattle.register_assign.specs.Assigned.{IsTheListing, KeepsWord}
 use Rattle.register_assign.specs.Outcomes.{AreWordsOf}
 use Rattle.saturation.specs.StandsFor.{StandsFor}
 use Rattle.schedule_meaning.specs.Fits.{Fits}
+use Rattle.schedule_meaning.specs.declared.schedules.Allocation.{Allocation}
 use Rattle.schedule_meaning.specs.declared.schedules.Launch.{Launch}
+use Rattle.schedule_meaning.specs.declared.schedules.Allocation.TheVariants.{Block, Live}
+use Rattle.denali_run.specs.Encodings.{encoding_for, encoding_in}
 use Rattle.denali_run.specs.MatchedGoals.{IsMatched}
 use Rattle.denali_run.specs.Right.{NoneFits, IsTooFew, nothing_less, one_less, IsLeast, IsScheduled, Right}
 use Rattle.denali_run.specs.Trials.{IsTrial, IsLargeBy, IsTrialsEnd, IsTrialsEndIn}
 use Rattle.denali_run.proofs.Computing.{computes}
-use Rattle.cycle_encoding.specs.declared.encodings.Encoding.TheVariants.{Pinned}
 use Rattle.denali_run.specs.declared.results.Answered.TheVariants.{Scheduled, Nowhere, SpentConflicts, SpentSize}
 use Rattle.denali_run.specs.declared.results.Found.{Found}
 use Rattle.denali_run.specs.declared.results.Large.{Large}
@@ -42,49 +44,49 @@ use Rattle.denali_run.specs.declared.searching.Reached.{Reached}
 use Rattle.denali_run.specs.declared.searching.Trial.{Trial}
 use Rattle.denali_run.specs.declared.searching.Trial.TheVariants as trials
 
-module _ (clauses_for : ℕ → Formula) (g : LaunchGraph) (table : Table) (conflicts : ℕ) where
+module _ (clauses_for : ℕ → Formula) (g : LaunchGraph) (table : Table) (a : Allocation) (conflicts : ℕ) where
   pub refuted_of : (k : ℕ) (f : Formula) (lines : List Line) → length lines ≤ conflicts → f ≡ clauses_for k
       → ¬ IsTooLarge (clauses_for k) → Refutes f lines → HaveNoSolution f.clauses
-      → ((ls : List Launch) → Fits g table k ls → (v : ℕ → Bool) × Satisfies v f.clauses)
-      → IsTooFew clauses_for g table conflicts k lines
+      → ((ls : List Launch) → Fits g table a k ls → (v : ℕ → Bool) × Satisfies v f.clauses)
+      → IsTooFew clauses_for g table a conflicts k lines
   refuted_of k f lines few is within refutes none each = record {
     few = few;
     refutes = subst (λ f. Refutes f lines) is refutes;
     none_fits = record { within = within; none = λ ls fit. let v = each ls fit in none v.0 v.1 };
   }
 
-  pub least_at_first : IsLeast clauses_for g table conflicts 0 None
+  pub least_at_first : IsLeast clauses_for g table a conflicts 0 None
   least_at_first = record { refuted = nothing_less; none_fits = λ j lt. absurd (omega arith) }
 
   by_test : (b : Bool) (j k : ℕ) → Decides b (j < k) → j < k + 1 → (j < k) ⊎ (j ≡ k)
   by_test true j k d lt = inl (d.0 refl)
   by_test false j k d lt = inr (let n : ¬ (j < k) = λ l. false≢true (d.1 l) in omega (arith, n, lt))
 
-  none_below : (k j : ℕ) → ((i : ℕ) → i < k → NoneFits clauses_for g table i) → NoneFits clauses_for g table k → (j < k) ⊎ (j ≡ k)
-      → NoneFits clauses_for g table j
+  none_below : (k j : ℕ) → ((i : ℕ) → i < k → NoneFits clauses_for g table a i) → NoneFits clauses_for g table a k → (j < k) ⊎ (j ≡ k)
+      → NoneFits clauses_for g table a j
   none_below k j below at (inl lt) = below j lt
-  none_below k j below at (inr e) = subst (NoneFits clauses_for g table) (sym e) at
+  none_below k j below at (inr e) = subst (NoneFits clauses_for g table a) (sym e) at
 
-  pub least_after : (k : ℕ) (before : Option Lines) (lines : Lines) → IsLeast clauses_for g table conflicts k before
-      → IsTooFew clauses_for g table conflicts k lines.lines → IsLeast clauses_for g table conflicts (k + 1) (Some lines)
+  pub least_after : (k : ℕ) (before : Option Lines) (lines : Lines) → IsLeast clauses_for g table a conflicts k before
+      → IsTooFew clauses_for g table a conflicts k lines.lines → IsLeast clauses_for g table a conflicts (k + 1) (Some lines)
   least_after k before lines least refuted = record {
     refuted = one_less refuted;
     none_fits = λ j lt. none_below k j least.none_fits refuted.none_fits (by_test (nat_lt j k) j k (Decides-ltb j k) lt);
   }
 
 module _ (input : InputTree) (goal : GoalTree) (s : Settings) where
-  scheduled : (f : Found) → Fits f.matched.graph input.table f.k f.schedule.launches
-      → IsTheListing f.matched.graph input.table f.schedule.launches f.listing.items f.listing.wheres
+  scheduled : (f : Found) → Fits f.matched.graph input.table s.allocation f.k f.schedule.launches
+      → IsTheListing f.matched.graph input.table s.allocation f.schedule.launches f.listing.items f.listing.wheres
       → AreWordsOf f.listing.items f.words → All (λ word. word < 2 ^ 32) f.words
       → KeepsWord f.matched.graph input.table f.k f.listing.items f.listing.wheres
-      → StandsFor input goal f.matched.graph → IsScheduled input goal f
+      → StandsFor input goal f.matched.graph → IsScheduled input goal s.allocation f
   scheduled f fits listing words low keeps stands = record {
     fits = fits;
     listing = listing;
     words = words;
     low = low;
     obeys = keeps.obeys stands.of.proper;
-    computes = computes input goal f.matched.graph stands input.table f.schedule.launches f.listing.items f.words
+    computes = computes input goal f.matched.graph stands input.table s.allocation f.schedule.launches f.listing.items f.words
         f.listing.wheres listing.is (keeps.right stands.of.proper f.words words);
   }
 
@@ -93,64 +95,64 @@ module _ (input : InputTree) (goal : GoalTree) (s : Settings) where
   at_table table P is h = subst P (sym is) h
 
   pub found_right : (table : Table) (f : Found) (clauses_for : ℕ → Formula) → input.table ≡ table
-      → IsMatched input goal s f.matched → f.k ≤ s.cycles → AreFormulas Pinned f.matched.graph table clauses_for
-      → (¬ IsTooLarge (clauses_for f.k)) × Fits f.matched.graph table f.k f.schedule.launches
-      → IsTheListing f.matched.graph table f.schedule.launches f.listing.items f.listing.wheres
+      → IsMatched input goal s f.matched → f.k ≤ s.cycles → AreFormulas (encoding_in s) f.matched.graph table clauses_for
+      → (¬ IsTooLarge (clauses_for f.k)) × Fits f.matched.graph table s.allocation f.k f.schedule.launches
+      → IsTheListing f.matched.graph table s.allocation f.schedule.launches f.listing.items f.listing.wheres
       → AreWordsOf f.listing.items f.words → All (λ word. word < 2 ^ 32) f.words
       → KeepsWord f.matched.graph table f.k f.listing.items f.listing.wheres
-      → IsLeast clauses_for f.matched.graph table s.conflicts f.k f.refutation → Right Pinned input goal s (Scheduled f)
+      → IsLeast clauses_for f.matched.graph table s.allocation s.conflicts f.k f.refutation → Right input goal s (Scheduled f)
   found_right table f clauses_for is matched few formulas trial listing words low keeps least =
       let at : (P : Table → Type 0) → P table → P input.table = λ P h. at_table table P is h in (
         matched,
         few,
-        scheduled f (at (λ t. Fits f.matched.graph t f.k f.schedule.launches) trial.1)
-            (at (λ t. IsTheListing f.matched.graph t f.schedule.launches f.listing.items f.listing.wheres) listing) words low
+        scheduled f (at (λ t. Fits f.matched.graph t s.allocation f.k f.schedule.launches) trial.1)
+            (at (λ t. IsTheListing f.matched.graph t s.allocation f.schedule.launches f.listing.items f.listing.wheres) listing) words low
             (at (λ t. KeepsWord f.matched.graph t f.k f.listing.items f.listing.wheres) keeps) matched.stands,
         record {
           clauses_for = clauses_for;
-          formulas = at (λ t. AreFormulas Pinned f.matched.graph t clauses_for) formulas;
-          holds = (trial.0, at (λ t. IsLeast clauses_for f.matched.graph t s.conflicts f.k f.refutation) least);
+          formulas = at (λ t. AreFormulas (encoding_in s) f.matched.graph t clauses_for) formulas;
+          holds = (trial.0, at (λ t. IsLeast clauses_for f.matched.graph t s.allocation s.conflicts f.k f.refutation) least);
         },
       )
 
   pub missing_right : (table : Table) (m : Missing) (clauses_for : ℕ → Formula) → input.table ≡ table
-      → IsMatched input goal s m.matched → m.k ≡ s.cycles → AreFormulas Pinned m.matched.graph table clauses_for
-      → IsLeast clauses_for m.matched.graph table s.conflicts (m.k + 1) (Some m.refutation)
-      → Right Pinned input goal s (Nowhere m)
+      → IsMatched input goal s m.matched → m.k ≡ s.cycles → AreFormulas (encoding_in s) m.matched.graph table clauses_for
+      → IsLeast clauses_for m.matched.graph table s.allocation s.conflicts (m.k + 1) (Some m.refutation)
+      → Right input goal s (Nowhere m)
   missing_right table m clauses_for is matched last formulas least = (
     matched,
     last,
     record {
       clauses_for = clauses_for;
-      formulas = at_table table (λ t. AreFormulas Pinned m.matched.graph t clauses_for) is formulas;
-      holds = at_table table (λ t. IsLeast clauses_for m.matched.graph t s.conflicts (m.k + 1) (Some m.refutation)) is least;
+      formulas = at_table table (λ t. AreFormulas (encoding_in s) m.matched.graph t clauses_for) is formulas;
+      holds = at_table table (λ t. IsLeast clauses_for m.matched.graph t s.allocation s.conflicts (m.k + 1) (Some m.refutation)) is least;
     },
   )
 
   pub spent_right : (table : Table) (t : Tried) (clauses_for : ℕ → Formula) → input.table ≡ table
-      → IsMatched input goal s t.matched → t.k ≤ s.cycles → AreFormulas Pinned t.matched.graph table clauses_for
+      → IsMatched input goal s t.matched → t.k ≤ s.cycles → AreFormulas (encoding_in s) t.matched.graph table clauses_for
       → (¬ IsTooLarge (clauses_for t.k)) × IsSpent (clauses_for t.k) s.conflicts t.lemmas.lines
-      → IsLeast clauses_for t.matched.graph table s.conflicts t.k t.refutation
-      → Right Pinned input goal s (SpentConflicts t)
+      → IsLeast clauses_for t.matched.graph table s.allocation s.conflicts t.k t.refutation
+      → Right input goal s (SpentConflicts t)
   spent_right table t clauses_for is matched few formulas trial least = (
     matched,
     few,
     record {
       clauses_for = clauses_for;
-      formulas = at_table table (λ x. AreFormulas Pinned t.matched.graph x clauses_for) is formulas;
+      formulas = at_table table (λ x. AreFormulas (encoding_in s) t.matched.graph x clauses_for) is formulas;
       holds = (
         trial.0,
         trial.1,
-        at_table table (λ x. IsLeast clauses_for t.matched.graph x s.conflicts t.k t.refutation) is least,
+        at_table table (λ x. IsLeast clauses_for t.matched.graph x s.allocation s.conflicts t.k t.refutation) is least,
       );
     },
   )
 
   pub large_right : (table : Table) (l : Large) (clauses_for : ℕ → Formula) → input.table ≡ table
-      → IsMatched input goal s l.matched → l.k ≤ s.cycles → AreFormulas Pinned l.matched.graph table clauses_for
+      → IsMatched input goal s l.matched → l.k ≤ s.cycles → AreFormulas (encoding_in s) l.matched.graph table clauses_for
       → PassesLimit (clauses_for l.k) l.vars l.clauses × IsWord l.vars × IsWord l.clauses
-      → IsLeast clauses_for l.matched.graph table s.conflicts l.k l.refutation
-      → Right Pinned input goal s (SpentSize l)
+      → IsLeast clauses_for l.matched.graph table s.allocation s.conflicts l.k l.refutation
+      → Right input goal s (SpentSize l)
   large_right table l clauses_for is matched few formulas trial least = (
     matched,
     few,
@@ -158,10 +160,10 @@ module _ (input : InputTree) (goal : GoalTree) (s : Settings) where
     trial.2,
     record {
       clauses_for = clauses_for;
-      formulas = at_table table (λ x. AreFormulas Pinned l.matched.graph x clauses_for) is formulas;
+      formulas = at_table table (λ x. AreFormulas (encoding_in s) l.matched.graph x clauses_for) is formulas;
       holds = (
         trial.0,
-        at_table table (λ x. IsLeast clauses_for l.matched.graph x s.conflicts l.k l.refutation) is least,
+        at_table table (λ x. IsLeast clauses_for l.matched.graph x s.allocation s.conflicts l.k l.refutation) is least,
       );
     },
   )
@@ -172,21 +174,35 @@ pub formulas_in : (e : Encoding) (g : LaunchGraph) (table : Table) (s : Scope) �
 formulas_in e g table s is = λ k few. record { lists = listed_in g table k s; listed = is.lists k few; is = refl }
 
 -- where numbers of cycles ended by these clauses, they did so by those of the encoding
-pub reached_in : {E : Type 0} (e : Encoding) (g h : LaunchGraph) (table : Table) (scope : Scope) (s : Settings) → h ≡ g
-    → IsScope e h table scope → (r : Result Reached E) → IfOk r (IsTrialsEnd (formula_in scope h table) g table s)
-    → IfOk r (IsTrialsEndIn e g table s)
-reached_in e g h table scope s same is (Ok r) holds = record {
+pub reached_in : {E : Type 0} (g h : LaunchGraph) (table : Table) (scope : Scope) (s : Settings) → h ≡ g
+    → IsScope (encoding_in s) h table scope → (r : Result Reached E) → IfOk r (IsTrialsEnd (formula_in scope h table) g table s)
+    → IfOk r (IsTrialsEndIn g table s)
+reached_in g h table scope s same is (Ok r) holds = record {
   clauses_for = formula_in scope h table;
-  formulas = subst (λ (x : LaunchGraph). AreFormulas e x table (formula_in scope h table)) same (formulas_in e h table scope is);
+  formulas = subst (λ (x : LaunchGraph). AreFormulas (encoding_in s) x table (formula_in scope h table)) same
+      (formulas_in (encoding_in s) h table scope is);
   holds = holds;
 }
-reached_in e g h table scope s same is (Err x) holds = tt
+reached_in g h table scope s same is (Err x) holds = tt
+
+-- the scope's own encoding is the one by which the settings ask, and so is its allocation
+pub own_scope : (e : Encoding) (g : LaunchGraph) (table : Table) (s : Scope) → IsScope e g table s
+    → IsScope s.encoding g table s
+own_scope e g table s is = subst (λ (x : Encoding). IsScope x g table s) (sym is.encoding) is
+
+allocated : (a : Allocation) → allocation_of (encoding_for a) ≡ a
+allocated Block = refl
+allocated Live = refl
+
+pub own_allocation : (s : Settings) (g : LaunchGraph) (table : Table) (scope : Scope)
+    → IsScope (encoding_in s) g table scope → allocation_in scope ≡ s.allocation
+own_allocation s g table scope is = ap allocation_of is.encoding ∙ allocated s.allocation
 
 -- ---- formulas that are too large
 
-module _ (clauses_for : ℕ → Formula) (g : LaunchGraph) (table : Table) (k conflicts : ℕ) where
+module _ (clauses_for : ℕ → Formula) (g : LaunchGraph) (table : Table) (a : Allocation) (k conflicts : ℕ) where
   large : (fault : EncodeFault) (t : Trial) → EncodeFaultIs (clauses_for k) fault → IsLargeBy fault t
-      → IsTrial clauses_for g table k conflicts t
+      → IsTrial clauses_for g table a k conflicts t
   large (Size v c) (trials.Large vars clauses) h e = ((h.0, e.0 ∙ h.1, e.1 ∙ h.2), e.2, e.3)
   large (Size v c) (trials.Fitting s) h e = absurd e
   large (Size v c) (trials.Refuted s) h e = absurd e
@@ -194,6 +210,6 @@ module _ (clauses_for : ℕ → Formula) (g : LaunchGraph) (table : Table) (k co
   large Memory t h e = absurd e
 
   pub all_large : {E : Type 0} (fault : EncodeFault) (r : Result Trial E) → EncodeFaultIs (clauses_for k) fault
-      → IfOk r (IsLargeBy fault) → IfOk r (IsTrial clauses_for g table k conflicts)
+      → IfOk r (IsLargeBy fault) → IfOk r (IsTrial clauses_for g table a k conflicts)
   all_large fault (Ok t) h e = large fault t h e
   all_large fault (Err x) h e = tt

@@ -21,7 +21,6 @@ use Rattle.denali_run.specs.MatchedGoals.{IsMatched, IsSettings}
 use Rattle.denali_run.specs.Right.{AreRefutedBelow, Right}
 use Rattle.denali_run.specs.declared.results.Answered.{Answered}
 use Rattle.denali_run.specs.declared.results.Answered.TheVariants.{Scheduled, Nowhere, SpentConflicts, SpentSize, NoWorld}
-use Rattle.cycle_encoding.specs.declared.encodings.Encoding.{Encoding}
 use Rattle.denali_run.specs.declared.results.Found.{Found}
 use Rattle.denali_run.specs.declared.results.Large.{Large}
 use Rattle.denali_run.specs.declared.results.Matched.{Matched}
@@ -59,7 +58,7 @@ module _ (laws : Laws) where
       (rest_same (decoded w) (Some i) (map decoded ws) (map Some instrs) is)
       (rest_same (decoded v) (Some i) (map decoded vs) (map Some instrs) are))
 
-  module _ (e : Encoding) (input : InputTree) (s : Settings) (is : IsInput input) (set : IsSettings s) (goal : GoalTree) (small : length goal.sets ≤ 16) where
+  module _ (input : InputTree) (s : Settings) (is : IsInput input) (set : IsSettings s) (goal : GoalTree) (small : length goal.sets ≤ 16) where
     abbrev table : Table
     table = input.table
 
@@ -71,28 +70,28 @@ module _ (laws : Laws) where
       whole : (end : List Words) → answered_lines table r ++ end
           ≡ matched_lines matched ++ (kind_of r ∷ behind table r end)
 
-    abbrev scheduled_graph : (f : Found) → Right e input goal s (Scheduled f) → HasGraph (Scheduled f)
+    abbrev scheduled_graph : (f : Found) → Right input goal s (Scheduled f) → HasGraph (Scheduled f)
     scheduled_graph f right = record {
       matched = f.matched;
       right = right.0;
       whole = λ end. simp append_assoc;
     }
 
-    abbrev nowhere_graph : (m : Missing) → Right e input goal s (Nowhere m) → HasGraph (Nowhere m)
+    abbrev nowhere_graph : (m : Missing) → Right input goal s (Nowhere m) → HasGraph (Nowhere m)
     nowhere_graph m right = record {
       matched = m.matched;
       right = right.0;
       whole = λ end. append_assoc (matched_lines m.matched) (none_words m.k ∷ refute_lines m.k m.refutation.lines) end;
     }
 
-    abbrev conflicts_graph : (t : Tried) → Right e input goal s (SpentConflicts t) → HasGraph (SpentConflicts t)
+    abbrev conflicts_graph : (t : Tried) → Right input goal s (SpentConflicts t) → HasGraph (SpentConflicts t)
     conflicts_graph t right = record {
       matched = t.matched;
       right = right.0;
       whole = λ end. simp append_assoc;
     }
 
-    abbrev size_graph : (l : Large) → Right e input goal s (SpentSize l) → HasGraph (SpentSize l)
+    abbrev size_graph : (l : Large) → Right input goal s (SpentSize l) → HasGraph (SpentSize l)
     size_graph l right = record {
       matched = l.matched;
       right = right.0;
@@ -107,7 +106,7 @@ module _ (laws : Laws) where
     kinds r q x y p o same =
         let both = matched_once laws.graphs p.matched o.matched (kind_of r ∷ behind table r x)
         (kind_of q ∷ behind table q y) p.right.graph o.right.graph
-        (rounds_low laws e input s is set goal p.matched p.right) (rounds_low laws e input s is set goal o.matched o.right)
+        (rounds_low laws input s is set goal p.matched p.right) (rounds_low laws input s is set goal o.matched o.right)
         (no_target r) (no_target q) (sym (p.whole x) ∙ same ∙ o.whole y) in
         let lines = cons_same (kind_of r) (kind_of q) (behind table r x) (behind table q y) both.1 in
         (both.0, lines.0, lines.1)
@@ -123,29 +122,29 @@ module _ (laws : Laws) where
 
     -- ---- results of one kind
 
-    found_once : (f g : Found) (x y : List Words) → Right e input goal s (Scheduled f) → Right e input goal s (Scheduled g)
+    found_once : (f g : Found) (x y : List Words) → Right input goal s (Scheduled f) → Right input goal s (Scheduled g)
         → BeginsNoLaunch x → BeginsNoLaunch y
         → f.matched ≡ g.matched → scheduled_words f.k ≡ scheduled_words g.k
         → behind table (Scheduled f) x ≡ behind table (Scheduled g) y → (Scheduled f ≡ Scheduled g) × (x ≡ y)
     found_once f g x y p o apart alone same kind rest =
-        let low : f.k ≤ most_cycles = cycles_low laws e input s is set f.k p.1 in
-        let less : g.k ≤ most_cycles = cycles_low laws e input s is set g.k o.1 in
+        let low : f.k ≤ most_cycles = cycles_low laws input s is set f.k p.1 in
+        let less : g.k ≤ most_cycles = cycles_low laws input s is set g.k o.1 in
         let level : f.k ≡ g.k = cycles_same (codes "scheduled") f.k g.k [] [] low less kind in
         let few = few_sets input goal f.matched.graph p.0.stands small in
         let more = few_sets input goal g.matched.graph o.0.stands small in
         let launches = launches_once laws.launches table f.matched.graph is.table p.0.graph f.schedule.launches g.schedule.launches
         (map word_words f.words ++ (map where_words f.listing.wheres ++ (below_lines f.k f.refutation ++ x)))
         (map word_words g.words ++ (map where_words g.listing.wheres ++ (below_lines g.k g.refutation ++ y)))
-        (are_placed f.matched.graph p.0.graph few laws.slots table is.table f.k f.schedule.launches low p.2.fits)
+        (are_placed f.matched.graph p.0.graph few laws.slots table is.table s.allocation f.k f.schedule.launches low p.2.fits)
         (subst (λ (m : Matched). All (IsLaunch table m.graph) g.schedule.launches) (sym same)
-        (are_placed g.matched.graph o.0.graph more laws.slots table is.table g.k g.schedule.launches less o.2.fits))
+        (are_placed g.matched.graph o.0.graph more laws.slots table is.table s.allocation g.k g.schedule.launches less o.2.fits))
         (no_launch f x apart) (no_launch g y alone)
         (subst (λ (m : Matched). behind table (Scheduled f) x
         ≡ map (launch_words table m.graph) g.schedule.launches
         ++ (map word_words g.words ++ (map where_words g.listing.wheres ++ (below_lines g.k g.refutation ++ y)))) (sym same) rest) in
-        let listed : IsListing f.matched.graph table f.schedule.launches g.listing.items g.listing.wheres =
-        subst (λ m. IsListing m.graph table f.schedule.launches g.listing.items g.listing.wheres) (sym same)
-        (subst (λ ls. IsListing g.matched.graph table ls g.listing.items g.listing.wheres) (sym launches.0)
+        let listed : IsListing f.matched.graph table s.allocation f.schedule.launches g.listing.items g.listing.wheres =
+        subst (λ m. IsListing m.graph table s.allocation f.schedule.launches g.listing.items g.listing.wheres) (sym same)
+        (subst (λ ls. IsListing g.matched.graph table s.allocation ls g.listing.items g.listing.wheres) (sym launches.0)
         o.2.listing.is) in
         let places = p.2.listing.only g.listing.items g.listing.wheres listed in
         let words : f.words ≡ g.words =
@@ -155,9 +154,9 @@ module _ (laws : Laws) where
         ≡ map word_words g.words ++ (map where_words g.listing.wheres ++ (below_lines g.k g.refutation ++ y)) =
         ap (λ ws. map word_words ws ++ (map where_words f.listing.wheres ++ (below_lines g.k g.refutation ++ y))) words
         ∙ ap (λ ps. map word_words g.words ++ (map where_words ps ++ (below_lines g.k g.refutation ++ y))) (sym places.1) in
-        let below = below_once laws.accepted laws.one_line p.3.clauses_for o.3.clauses_for f.matched.graph table s.conflicts set.conflicts.1 f.k g.k
+        let below = below_once laws.accepted laws.one_line p.3.clauses_for o.3.clauses_for f.matched.graph table s.allocation s.conflicts set.conflicts.1 f.k g.k
         f.refutation g.refutation x y level p.3.holds.1.refuted
-        (subst (λ m. AreRefutedBelow o.3.clauses_for m.graph table s.conflicts g.k g.refutation) (sym same) o.3.holds.1.refuted)
+        (subst (λ m. AreRefutedBelow o.3.clauses_for m.graph table s.allocation s.conflicts g.k g.refutation) (sym same) o.3.holds.1.refuted)
         (append_same (map where_words f.listing.wheres) (below_lines f.k f.refutation ++ x)
         (below_lines g.k g.refutation ++ y)
         (append_same (map word_words f.words) (map where_words f.listing.wheres ++ (below_lines f.k f.refutation ++ x))
@@ -166,14 +165,14 @@ module _ (laws : Laws) where
           below.1,
         )
 
-    missing_once : (m n : Missing) (x y : List Words) → Right e input goal s (Nowhere m) → Right e input goal s (Nowhere n)
+    missing_once : (m n : Missing) (x y : List Words) → Right input goal s (Nowhere m) → Right input goal s (Nowhere n)
         → m.matched ≡ n.matched
         → behind table (Nowhere m) x ≡ behind table (Nowhere n) y → (Nowhere m ≡ Nowhere n) × (x ≡ y)
     missing_once m n x y p o same rest =
         let level : m.k ≡ n.k = p.1 ∙ sym o.1 in
-        let below = below_once laws.accepted laws.one_line p.2.clauses_for o.2.clauses_for m.matched.graph table s.conflicts set.conflicts.1
+        let below = below_once laws.accepted laws.one_line p.2.clauses_for o.2.clauses_for m.matched.graph table s.allocation s.conflicts set.conflicts.1
         (m.k + 1) (n.k + 1) (Some m.refutation) (Some n.refutation) x y (ap (λ k. k + 1) level) p.2.holds.refuted
-        (subst (λ g. AreRefutedBelow o.2.clauses_for g.graph table s.conflicts (n.k + 1) (Some n.refutation)) (sym same)
+        (subst (λ g. AreRefutedBelow o.2.clauses_for g.graph table s.allocation s.conflicts (n.k + 1) (Some n.refutation)) (sym same)
         o.2.holds.refuted)
         (ap (λ k. refute_lines k m.refutation.lines ++ x) (one_less_than m.k) ∙ rest
         ∙ ap (λ k. refute_lines k n.refutation.lines ++ y) (sym (one_less_than n.k))) in
@@ -182,21 +181,21 @@ module _ (laws : Laws) where
         some_lines : (a b : Lines) → Some a ≡ Some b → a ≡ b
         some_lines a b e = cc
 
-    conflicts_once : (t u : Tried) (x y : List Words) → Right e input goal s (SpentConflicts t)
-        → Right e input goal s (SpentConflicts u) → t.matched ≡ u.matched → conflicts_words t.k ≡ conflicts_words u.k
+    conflicts_once : (t u : Tried) (x y : List Words) → Right input goal s (SpentConflicts t)
+        → Right input goal s (SpentConflicts u) → t.matched ≡ u.matched → conflicts_words t.k ≡ conflicts_words u.k
         → behind table (SpentConflicts t) x ≡ behind table (SpentConflicts u) y
         → (SpentConflicts t ≡ SpentConflicts u) × (x ≡ y)
     conflicts_once t u x y p o same kind rest =
-        let low : t.k ≤ most_cycles = cycles_low laws e input s is set t.k p.1 in
-        let less : u.k ≤ most_cycles = cycles_low laws e input s is set u.k o.1 in
+        let low : t.k ≤ most_cycles = cycles_low laws input s is set t.k p.1 in
+        let less : u.k ≤ most_cycles = cycles_low laws input s is set u.k o.1 in
         let level : t.k ≡ u.k =
         cycles_same (codes "conflicts") t.k u.k [] [] low less
         (rest_same (codes "spent") (codes "spent") (codes "conflicts" ∷ decimal t.k ∷ [])
         (codes "conflicts" ∷ decimal u.k ∷ []) kind) in
-        let below = below_once laws.accepted laws.one_line p.2.clauses_for o.2.clauses_for t.matched.graph table s.conflicts set.conflicts.1 t.k u.k
+        let below = below_once laws.accepted laws.one_line p.2.clauses_for o.2.clauses_for t.matched.graph table s.allocation s.conflicts set.conflicts.1 t.k u.k
         t.refutation u.refutation (lemmas_lines t.k t.lemmas.lines ++ x) (lemmas_lines u.k u.lemmas.lines ++ y) level
         p.2.holds.2.refuted
-        (subst (λ m. AreRefutedBelow o.2.clauses_for m.graph table s.conflicts u.k u.refutation) (sym same)
+        (subst (λ m. AreRefutedBelow o.2.clauses_for m.graph table s.allocation s.conflicts u.k u.refutation) (sym same)
         o.2.holds.2.refuted) rest in
         let lemmas = block_once laws.one_line (codes "lemmas") (decimal t.k) t.lemmas.lines u.lemmas.lines x y
         (readable laws.accepted (p.2.clauses_for t.k) t.lemmas.lines p.2.holds.0 p.2.holds.1.accepted
@@ -206,13 +205,13 @@ module _ (laws : Laws) where
         (below.1 ∙ ap (λ k. lemmas_lines k u.lemmas.lines ++ y) (sym level)) in
         (ap SpentConflicts (same_tried t u same level below.0 (same_lines t.lemmas u.lemmas lemmas.0)), lemmas.1)
 
-    size_once : (l m : Large) (x y : List Words) → Right e input goal s (SpentSize l) → Right e input goal s (SpentSize m)
+    size_once : (l m : Large) (x y : List Words) → Right input goal s (SpentSize l) → Right input goal s (SpentSize m)
         → l.matched ≡ m.matched
         → size_words l.k l.vars l.clauses ≡ size_words m.k m.vars m.clauses
         → behind table (SpentSize l) x ≡ behind table (SpentSize m) y → (SpentSize l ≡ SpentSize m) × (x ≡ y)
     size_once l m x y p o same kind rest =
-        let low : l.k ≤ most_cycles = cycles_low laws e input s is set l.k p.1 in
-        let less : m.k ≤ most_cycles = cycles_low laws e input s is set m.k o.1 in
+        let low : l.k ≤ most_cycles = cycles_low laws input s is set l.k p.1 in
+        let less : m.k ≤ most_cycles = cycles_low laws input s is set m.k o.1 in
         let size = rest_same (codes "spent") (codes "spent")
         (codes "size" ∷ decimal l.k ∷ decimal l.vars ∷ decimal l.clauses ∷ [])
         (codes "size" ∷ decimal m.k ∷ decimal m.vars ∷ decimal m.clauses ∷ []) kind in
@@ -228,14 +227,14 @@ module _ (laws : Laws) where
         let clauses : l.clauses ≡ m.clauses =
         number_same l.clauses m.clauses [] [] p.3 o.3
         (rest_same (decimal l.vars) (decimal m.vars) (decimal l.clauses ∷ []) (decimal m.clauses ∷ []) counts) in
-        let below = below_once laws.accepted laws.one_line p.4.clauses_for o.4.clauses_for l.matched.graph table s.conflicts set.conflicts.1 l.k m.k
+        let below = below_once laws.accepted laws.one_line p.4.clauses_for o.4.clauses_for l.matched.graph table s.allocation s.conflicts set.conflicts.1 l.k m.k
         l.refutation m.refutation x y level p.4.holds.1.refuted
-        (subst (λ g. AreRefutedBelow o.4.clauses_for g.graph table s.conflicts m.k m.refutation) (sym same)
+        (subst (λ g. AreRefutedBelow o.4.clauses_for g.graph table s.allocation s.conflicts m.k m.refutation) (sym same)
         o.4.holds.1.refuted) rest in
         (ap SpentSize (same_large l m same level below.0 vars clauses), below.1)
 
-    noworld_once : (class a b other c d : ℕ) (x y : List Words) → Right e input goal s (NoWorld class a b)
-        → Right e input goal s (NoWorld other c d) → noworld_words class a b ∷ x ≡ noworld_words other c d ∷ y
+    noworld_once : (class a b other c d : ℕ) (x y : List Words) → Right input goal s (NoWorld class a b)
+        → Right input goal s (NoWorld other c d) → noworld_words class a b ∷ x ≡ noworld_words other c d ∷ y
         → (NoWorld class a b ≡ NoWorld other c d) × (x ≡ y)
     noworld_once class a b other c d x y p o same =
         let low : class < 2 ^ 31 = p.1 in
@@ -263,7 +262,7 @@ module _ (laws : Laws) where
         (codes "size" ∷ decimal l.k ∷ decimal l.vars ∷ decimal l.clauses ∷ []) same) in
         omega (arith, h))
 
-    answered_once : (r q : Answered) (x y : List Words) → Right e input goal s r → Right e input goal s q → BeginsNoLaunch x → BeginsNoLaunch y
+    answered_once : (r q : Answered) (x y : List Words) → Right input goal s r → Right input goal s q → BeginsNoLaunch x → BeginsNoLaunch y
         → answered_lines table r ++ x ≡ answered_lines table q ++ y → (r ≡ q) × (x ≡ y)
     answered_once (Scheduled f) (Scheduled g) x y p o apart alone same =
         let parts = kinds (Scheduled f) (Scheduled g) x y (scheduled_graph f p) (scheduled_graph g o) same in
@@ -335,14 +334,14 @@ module _ (laws : Laws) where
 
   -- ---- all goals
 
-  module _ (e : Encoding) (input : InputTree) (s : Settings) (is : IsInput input) (set : IsSettings s) where
+  module _ (input : InputTree) (s : Settings) (is : IsInput input) (set : IsSettings s) where
     end_no_launch : (lines : List Words) → BeginsNoLaunch (end_words ∷ lines)
     end_no_launch lines =
         λ e. (let h : ◌≡◌ {A = ℕ} 101 108 = byte_same 0 (codes "end") (codes "launch") e in omega (arith, h))
 
     pub goals_once : (goals : List GoalTree) (results others : List Answered) → All (IsGoal input.ops) goals
-        → AllZip (λ goal answered. Right e input goal s answered) goals results
-        → AllZip (λ goal answered. Right e input goal s answered) goals others
+        → AllZip (λ goal answered. Right input goal s answered) goals results
+        → AllZip (λ goal answered. Right input goal s answered) goals others
         → goals_lines input.table goals results ≡ goals_lines input.table goals others → results ≡ others
     goals_once [] [] [] each right also same = refl
     goals_once [] [] (q ∷ qs) each right also same = absurd also
@@ -356,7 +355,7 @@ module _ (laws : Laws) where
         let two : List Words = answered_lines input.table q in
         let lines = cons_same (goal_words goal.name) (goal_words goal.name) ((one ++ (end_words ∷ [])) ++ x)
         ((two ++ (end_words ∷ [])) ++ y) same in
-        let both = answered_once e input s is set goal
+        let both = answered_once input s is set goal
         (few_targets input goal (All-head (IsGoal input.ops) goal goals each)) r q (end_words ∷ x) (end_words ∷ y) right.0 also.0
         (end_no_launch x) (end_no_launch y)
         (sym (append_assoc one (end_words ∷ []) x) ∙ lines.1 ∙ append_assoc two (end_words ∷ []) y) in

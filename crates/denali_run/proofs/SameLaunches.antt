@@ -27,6 +27,7 @@ use Rattle.schedule_meaning.specs.Fits.{Fits, CanGo, CanGoTo, CanGoToPin, CanLau
 use Rattle.schedule_meaning.specs.Launches.{copied_at, instr_at, op_instr, pinned_class}
 use Rattle.schedule_meaning.specs.declared.schedules.To.{To}
 use Rattle.schedule_meaning.specs.declared.schedules.To.TheVariants.{Pool, Set}
+use Rattle.schedule_meaning.specs.declared.schedules.Allocation.{Allocation}
 use Rattle.schedule_meaning.specs.declared.schedules.Launch.{Launch}
 use Rattle.schedule_meaning.proofs.Copies.{plain_kind}
 use Rattle.text_core.specs.LineTexts.{Words}
@@ -103,23 +104,23 @@ module _ (g : LaunchGraph) (formed : IsLaunchGraph g) (few : length g.sets ≤ 1
       (subst (λ (t : SetClass). IfSome t.pin (λ r. r < 31)) (get_or_from_slice_get g.sets j s s at)
       (formed.pins j s (slice_get_within g.sets j s at)))
 
-  by_pin : (l : Launch) (j : ℕ) (s : SetClass) → slice_get g.sets j ≡ Some s → (o : Option ℕ) → s.pin ≡ o
-      → IsSomeAnd o (CanGoToPin g l s) → IsDestination g (Set j)
-  by_pin l j s at None is can = absurd can
-  by_pin l j s at (Some r) is can = (
+  by_pin : (a : Allocation) (ls : List Launch) (l : Launch) (j : ℕ) (s : SetClass) → slice_get g.sets j ≡ Some s → (o : Option ℕ) → s.pin ≡ o
+      → IsSomeAnd o (CanGoToPin g a ls l s) → IsDestination g (Set j)
+  by_pin a ls l j s at None is can = absurd can
+  by_pin a ls l j s at (Some r) is can = (
     (let lt = slice_get_within g.sets j s at in omega (arith, lt, few)),
     subst (λ (o : Option ℕ). IsSomeAnd o (λ r. r < 31))
         (sym (ap (λ (o : Option SetClass). option_and_then (λ (s : SetClass). s.pin) o) at ∙ is)) (low_pin j s r at is),
   )
 
-  by_set : (l : Launch) (j : ℕ) (o : Option SetClass) → slice_get g.sets j ≡ o
-      → IsSomeAnd o (λ (s : SetClass). IsSomeAnd s.pin (CanGoToPin g l s)) → IsDestination g (Set j)
-  by_set l j None at can = absurd can
-  by_set l j (Some s) at can = by_pin l j s at s.pin refl can
+  by_set : (a : Allocation) (ls : List Launch) (l : Launch) (j : ℕ) (o : Option SetClass) → slice_get g.sets j ≡ o
+      → IsSomeAnd o (λ (s : SetClass). IsSomeAnd s.pin (CanGoToPin g a ls l s)) → IsDestination g (Set j)
+  by_set a ls l j None at can = absurd can
+  by_set a ls l j (Some s) at can = by_pin a ls l j s at s.pin refl can
 
-  destination : (l : Launch) (to : To) → CanGoTo g l to → IsDestination g to
-  destination l Pool can = tt
-  destination l (Set j) can = by_set l j (slice_get g.sets j) refl can
+  destination : (a : Allocation) (ls : List Launch) (l : Launch) (to : To) → CanGoTo g a ls l to → IsDestination g to
+  destination a ls l Pool can = tt
+  destination a ls l (Set j) can = by_set a ls l j (slice_get g.sets j) refl can
 
   module _ (there : SlotsAreThere) (table : Table) (is : IsTable table) where
     by_instr : (l : Launch) (o : Option InstrKind) → instr_at g l.row ≡ o → IsSomeAnd o (λ i. MayUse table i l.slot)
@@ -132,20 +133,21 @@ module _ (g : LaunchGraph) (formed : IsLaunchGraph g) (few : length g.sets ≤ 1
           omega (arith, low, rows, few)),
     )
 
-    placed : (k : ℕ) → k ≤ most_cycles → (l : Launch) → CanLaunch g table l → CanGo g l → EndsBy g table k l → IsLaunch table g l
-    placed k small l can goes ends =
+    placed : (a : Allocation) (ls : List Launch) (k : ℕ) → k ≤ most_cycles → (l : Launch) → CanLaunch g table l → CanGo g a ls l
+        → EndsBy g table k l → IsLaunch table g l
+    placed a ls k small l can goes ends =
         let at = by_instr l (instr_at g l.row) refl can in (
           (let by = ends in omega (arith, by, small)),
           at.0,
           at.1,
           (let lt : l.slot < length table.slots = at.0 in let most = is.slots.1 in omega (arith, lt, most)),
-          destination l l.to goes,
+          destination a ls l l.to goes,
         )
 
     -- those of a schedule that fits
-    pub are_placed : (k : ℕ) (ls : List Launch) → k ≤ most_cycles → Fits g table k ls → All (IsLaunch table g) ls
-    are_placed k ls small fits =
-        λ i d lt. placed k small (get_or ls i d) (fits.rows i d lt) (fits.destinations i d lt) (fits.in_time i d lt)
+    pub are_placed : (a : Allocation) (k : ℕ) (ls : List Launch) → k ≤ most_cycles → Fits g table a k ls → All (IsLaunch table g) ls
+    are_placed a k ls small fits =
+        λ i d lt. placed a ls k small (get_or ls i d) (fits.rows i d lt) (fits.destinations i d lt) (fits.in_time i d lt)
 
 -- ---- their lines
 

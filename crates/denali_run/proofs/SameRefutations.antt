@@ -14,6 +14,7 @@ use Rattle.refutation_check.specs.LineWords.{IsLineOf, IsReadableLine, line_word
 use Rattle.text_core.specs.LineTexts.{Words}
 use Rattle.answer_texts.specs.AnswerLines.{refute_lines}
 use Rattle.denali_run.proofs.ResultLines.{below_lines}
+use Rattle.schedule_meaning.specs.declared.schedules.Allocation.{Allocation}
 use Rattle.denali_run.specs.Right.{IsTooFew, AreRefutedBelow, nothing_less, one_less}
 use Rattle.denali_run.proofs.SameParts.{head_same, rest_same, cons_same, counted_same, each_once}
 
@@ -68,9 +69,9 @@ unfolding lines_of
 same_lines a b e = ap lines_of e
 
 module _ (accepted : AcceptedAreReadable) (one : WordsAreOneLine) (c d : ℕ → Formula) (g : LaunchGraph)
-    (table : Table) (conflicts : ℕ) (low : conflicts ≤ 1000000) where
-  pub refuted_once : (j : ℕ) (a b : Lines) (r q : List Words) → IsTooFew c g table conflicts j a.lines
-      → IsTooFew d g table conflicts j b.lines → refute_lines j a.lines ++ r ≡ refute_lines j b.lines ++ q
+    (table : Table) (al : Allocation) (conflicts : ℕ) (low : conflicts ≤ 1000000) where
+  pub refuted_once : (j : ℕ) (a b : Lines) (r q : List Words) → IsTooFew c g table al conflicts j a.lines
+      → IsTooFew d g table al conflicts j b.lines → refute_lines j a.lines ++ r ≡ refute_lines j b.lines ++ q
       → (a ≡ b) × (r ≡ q)
   refuted_once j a b r q f h is =
       let few : length a.lines ≤ conflicts = f.few in
@@ -82,14 +83,14 @@ module _ (accepted : AcceptedAreReadable) (one : WordsAreOneLine) (c d : ℕ →
       (same_lines a b both.0, both.1)
 
   -- the lines that refute the clauses for one cycle less, where there is one
-  pub below_once : (k m : ℕ) (a b : Option Lines) (r q : List Words) → k ≡ m → AreRefutedBelow c g table conflicts k a
-      → AreRefutedBelow d g table conflicts m b → below_lines k a ++ r ≡ below_lines m b ++ q → (a ≡ b) × (r ≡ q)
+  pub below_once : (k m : ℕ) (a b : Option Lines) (r q : List Words) → k ≡ m → AreRefutedBelow c g table al conflicts k a
+      → AreRefutedBelow d g table al conflicts m b → below_lines k a ++ r ≡ below_lines m b ++ q → (a ≡ b) × (r ≡ q)
   below_once k m None None r q same f h is = (refl, is)
   below_once k m None (Some b) r q same nothing_less (one_less {k = n} h) is = absurd (omega (arith, same))
   below_once k m (Some a) None r q same (one_less {k = n} f) nothing_less is = absurd (omega (arith, same))
   below_once k m (Some a) (Some b) r q same (one_less {k = n} f) (one_less {k = j} h) is =
       let level : n ≡ j = omega (arith, same) in
-      let both = refuted_once n a b r q f (subst (λ i. IsTooFew d g table conflicts i b.lines) (sym level) h)
+      let both = refuted_once n a b r q f (subst (λ i. IsTooFew d g table al conflicts i b.lines) (sym level) h)
       (ap (λ i. refute_lines i a.lines ++ r) (sym (one_less_than n)) ∙ is
       ∙ ap (λ i. refute_lines i b.lines ++ q) (one_less_than j ∙ sym level)) in
       (ap Some both.0, both.1)

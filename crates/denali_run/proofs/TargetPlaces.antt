@@ -15,12 +15,14 @@ use Rattle.graph_meaning.specs.declared.graphs.LaunchGraph.{LaunchGraph}
 use Rattle.graph_meaning.specs.declared.graphs.SetClass.{SetClass}
 use Rattle.machine_table.specs.declared.tables.Table.{Table}
 use Rattle.register_assign.specs.Listings.{IsListing, or_register, pin_at, register_at, target_place, target_register, word_targets}
+use Rattle.register_assign.specs.PoolPlaces.{pool_place}
 use Rattle.register_assign.specs.declared.listings.Item.{Item}
 use Rattle.register_assign.specs.declared.listings.Where.{Where}
 use Rattle.schedule_meaning.specs.Launches.{gives, pin_of, takes_pool}
 use Rattle.schedule_meaning.specs.Readers.{input_where, is_intact, passes}
 use Rattle.schedule_meaning.specs.declared.schedules.To.{To}
 use Rattle.schedule_meaning.specs.declared.schedules.To.TheVariants.{Pool, Set}
+use Rattle.schedule_meaning.specs.declared.schedules.Allocation.{Allocation}
 use Rattle.schedule_meaning.specs.declared.schedules.Launch.{Launch}
 use Rattle.text_core.specs.Names.{IsName}
 use Rattle.denali_run.proofs.SameParts.{head_same, rest_same}
@@ -50,13 +52,12 @@ module _ (g : LaunchGraph) (is : IsLaunchGraph g) where
   launch_pin None = tt
   launch_pin (Some l) = pin_low l.to
 
-  at_place : (ordered : List Launch) (o : Option ℕ) → option_map_or (register_at g ordered) o 31 < 32
-  at_place ordered None = omega arith
-  at_place ordered (Some i) =
-      pinned_or (slice_index g.pool (count_by (takes_pool g) (take i ordered))) (pin_at g ordered i)
+  at_place : (al : Allocation) (ordered : List Launch) (o : Option ℕ) → option_map_or (register_at g al ordered) o 31 < 32
+  at_place al ordered None = omega arith
+  at_place al ordered (Some i) =
+      pinned_or (slice_index g.pool (pool_place g al ordered i)) (pin_at g ordered i)
       (launch_pin (slice_get ordered i))
-      (in_pool g.pool (count_by (takes_pool g) (take i ordered))
-      (cases_lt (count_by (takes_pool g) (take i ordered)) (length g.pool)) is.pool)
+      (in_pool g.pool (pool_place g al ordered i) (cases_lt (pool_place g al ordered i) (length g.pool)) is.pool)
 
   found_input : (o : Option InputClass) → IfSome o (λ (i : InputClass). i.reg < 31) → (r : ℕ) → r < 32
       → or_register (option_map (λ (i : InputClass). i.reg) o) r < 32
@@ -79,9 +80,9 @@ module _ (g : LaunchGraph) (is : IsLaunchGraph g) where
   by_zero false r low = low
 
   -- the register of a target is one of the 32
-  target_low : (table : Table) (ordered : List Launch) (class : ℕ) → target_register g table ordered class < 32
-  target_low table ordered class =
-      let last = option_map_or (register_at g ordered)
+  target_low : (table : Table) (al : Allocation) (ordered : List Launch) (class : ℕ) → target_register g table al ordered class < 32
+  target_low table al ordered class =
+      let last = option_map_or (register_at g al ordered)
       (position (λ (l : Launch). gives g class l && passes g table None l) ordered) 31 in
       let test : InputClass → Bool = λ i. (i.class == class) && is_intact g ordered None i.reg in
       let low : All (λ (i : InputClass). i.reg < 31) g.inputs = λ k d lt. (is.inputs k d lt).1 in
@@ -89,23 +90,23 @@ module _ (g : LaunchGraph) (is : IsLaunchGraph g) where
       (or_register (input_where g (is_intact g ordered None) class) last)
       (found_input (find test g.inputs)
       (find_low test g.inputs low) last
-      (at_place ordered (position (λ (l : Launch). gives g class l && passes g table None l) ordered)))
+      (at_place al ordered (position (λ (l : Launch). gives g class l && passes g table None l) ordered)))
 
-  abbrev where_of : Table → List Launch → SetClass → Where
-  where_of table ordered s = record { name = s.name; reg = target_place g table ordered s }
+  abbrev where_of : Table → Allocation → List Launch → SetClass → Where
+  where_of table al ordered s = record { name = s.name; reg = target_place g table al ordered s }
 
-  pub are_places : (table : Table) (ls : List Launch) (items : List Item) (wheres : List Where)
-      → IsListing g table ls items wheres → AreWherePlaces wheres
-  are_places table ls items wheres listing =
+  pub are_places : (table : Table) (al : Allocation) (ls : List Launch) (items : List Item) (wheres : List Where)
+      → IsListing g table al ls items wheres → AreWherePlaces wheres
+  are_places table al ls items wheres listing =
       let P : SetClass → Type 0 = λ s. IsName s.name × IfSome s.pin (λ r. r < 31) in
       let each : All P g.sets = λ k d lt. (is.names.1 k d lt, is.pins k d lt) in
       subst (All IsPlace) (sym listing.wheres_are)
-      (All-map IsPlace (where_of table listing.ordered) (word_targets g)
-      (All-weaker P (λ (s : SetClass). IsPlace (where_of table listing.ordered s))
+      (All-map IsPlace (where_of table al listing.ordered) (word_targets g)
+      (All-weaker P (λ (s : SetClass). IsPlace (where_of table al listing.ordered s))
       (λ s named. (
         named.0,
-        pinned_or (target_register g table listing.ordered s.class) s.pin named.1
-            (target_low table listing.ordered s.class),
+        pinned_or (target_register g table al listing.ordered s.class) s.pin named.1
+            (target_low table al listing.ordered s.class),
       )) (word_targets g)
       (All-filter (λ (s : SetClass). not (is_memory_name s.name)) P g.sets each)))
 

@@ -31,7 +31,6 @@ use Rattle.saturation.specs.AtStart.{IsHopelessAtStart, StartFaultIs, StartNames
 use Rattle.denali_run.specs.Trials.{IsNoWorldAtStart, IsNoWorldInRounds}
 use Rattle.denali_run.specs.declared.results.Answered.{Answered}
 use Rattle.denali_run.specs.declared.results.Answered.TheVariants.{Scheduled, Nowhere, SpentConflicts, SpentSize, NoWorld}
-use Rattle.cycle_encoding.specs.declared.encodings.Encoding.TheVariants.{Pinned}
 use Rattle.denali_run.specs.declared.results.Matched.{Matched}
 use Rattle.denali_run.specs.declared.settings.Settings.{Settings}
 use Rattle.saturation.specs.declared.faults.StartFault.{StartFault}
@@ -52,7 +51,7 @@ module _ (input : InputTree) (goal : GoalTree) (s : Settings) (rules_true : Rule
   low_class class c low e = omega (arith, low, e)
 
   at_start : (fault : StartFault) (answered : Answered) → StartFaultIs goal fault → IsHopelessAtStart goal fault
-      → StartNamesLowClass fault → IsNoWorldAtStart fault answered → Right Pinned input goal s answered
+      → StartNamesLowClass fault → IsNoWorldAtStart fault answered → Right input goal s answered
   at_start (start.NoWorld class a b) (NoWorld c x y) h hopeless low e = (
     named a b x y e.1 e.2 (record {
       round = 0;
@@ -73,7 +72,7 @@ module _ (input : InputTree) (goal : GoalTree) (s : Settings) (rules_true : Rule
 
   pub start_refused : {E : Type 0} (fault : StartFault) (r : Result Answered E) → StartFaultIs goal fault
       → IsHopelessAtStart goal fault → StartNamesLowClass fault → IfOk r (IsNoWorldAtStart fault)
-      → IfOk r (Right Pinned input goal s)
+      → IfOk r (Right input goal s)
   start_refused fault (Ok x) h hopeless low e = at_start fault x h hopeless low e
   start_refused fault (Err x) h hopeless low e = tt
 
@@ -81,7 +80,7 @@ module _ (input : InputTree) (goal : GoalTree) (s : Settings) (rules_true : Rule
       (stands : GraphStands (declared_name input.ops) (rules_of s.library input) (assumed_pairs goal) (kept_terms goal) graph) where
     in_rounds : (fault : SaturateFault) (answered : Answered)
         → SaturateFaultIs (rules_of s.library input) graph s.rounds s.nodes fault → IsHopeless (rules_of s.library input) graph fault
-        → RoundsNameLowClass fault → IsNoWorldInRounds fault answered → Right Pinned input goal s answered
+        → RoundsNameLowClass fault → IsNoWorldInRounds fault answered → Right input goal s answered
     in_rounds (rounds.NoWorld class a b) (NoWorld c x y) h hopeless low e = (
       named a b x y e.1 e.2 (record {
         round = h.round;
@@ -102,7 +101,7 @@ module _ (input : InputTree) (goal : GoalTree) (s : Settings) (rules_true : Rule
 
     pub rounds_refused : {E : Type 0} (fault : SaturateFault) (r : Result Answered E)
         → SaturateFaultIs (rules_of s.library input) graph s.rounds s.nodes fault → IsHopeless (rules_of s.library input) graph fault
-        → RoundsNameLowClass fault → IfOk r (IsNoWorldInRounds fault) → IfOk r (Right Pinned input goal s)
+        → RoundsNameLowClass fault → IfOk r (IsNoWorldInRounds fault) → IfOk r (Right input goal s)
     rounds_refused fault (Ok x) h hopeless low e = in_rounds fault x h hopeless low e
     rounds_refused fault (Err x) h hopeless low e = tt
 
@@ -134,9 +133,9 @@ module _ (input : InputTree) (s : Settings) (place : ℕ) (goal : GoalTree) (the
   pub same_goal : (other : GoalTree) → slice_get input.goals place ≡ Some other → goal ≡ other
   same_goal other is = cc
 
-  pub for_the_goal : {E : Type 0} (r : Result Answered E) → IfOk r (Right Pinned input goal s)
-      → IfOk r (λ answered. (other : GoalTree) → slice_get input.goals place ≡ Some other → Right Pinned input other s answered)
-  for_the_goal (Ok x) h = λ other is. subst (λ (n : GoalTree). Right Pinned input n s x) (same_goal other is) h
+  pub for_the_goal : {E : Type 0} (r : Result Answered E) → IfOk r (Right input goal s)
+      → IfOk r (λ answered. (other : GoalTree) → slice_get input.goals place ≡ Some other → Right input other s answered)
+  for_the_goal (Ok x) h = λ other is. subst (λ (n : GoalTree). Right input n s x) (same_goal other is) h
   for_the_goal (Err e) h = tt
 
 -- the view of what was taken at a place
@@ -184,8 +183,8 @@ grown_after library input goal added graph after rounds nodes j stop is saturate
 
 pub found_of : {E : Type 0} (s : Settings) (table : Table) (m : Matched) (r : Result Answered E)
     → IfOk r (λ answered. (input : InputTree) (goal : GoalTree) → input.table ≡ table → IsMatched input goal s m
-    → Right Pinned input goal s answered)
+    → Right input goal s answered)
     → (input : InputTree) (goal : GoalTree) → input.table ≡ table → IsMatched input goal s m
-    → IfOk r (Right Pinned input goal s)
+    → IfOk r (Right input goal s)
 found_of s table m (Ok answered) h input goal is matched = h input goal is matched
 found_of s table m (Err e) h input goal is matched = tt

@@ -5,7 +5,6 @@ use Rattle.answer_texts.specs.declared.answers.AnswerText.{AnswerText}
 use Rattle.answer_texts.specs.declared.answers.Claim.{Claim}
 use Rattle.answer_texts.specs.declared.answers.Claim.TheVariants as claims
 use Rattle.answer_texts.specs.declared.answers.Claimed.{Claimed}
-use Rattle.axiom_library.specs.declared.libraries.Library.{Library}
 use Rattle.cnf_core.specs.declared.line.Lines.{Lines}
 use Rattle.goal_meaning.specs.Views.{GoalTree, InputTree}
 use Rattle.saturation.specs.AtStart.{most_rows_at_start}
@@ -13,8 +12,10 @@ use Rattle.graph_meaning.specs.declared.stops.Stop.TheVariants.{Quiet}
 use Rattle.denali_run.specs.declared.results.Answered.{Answered}
 use Rattle.denali_run.specs.declared.results.Answered.TheVariants.{Scheduled, Nowhere, SpentConflicts, SpentSize, NoWorld}
 use Rattle.cycle_encoding.specs.declared.encodings.Encoding.{Encoding}
-use Rattle.cycle_encoding.specs.declared.encodings.Encoding.TheVariants.{Wide, Narrow, Pinned}
+use Rattle.cycle_encoding.specs.declared.encodings.Encoding.TheVariants.{Wide, Narrow, Pinned, Live}
 use Rattle.denali_run.specs.declared.results.Matched.{Matched}
+use Rattle.denali_run.specs.declared.settings.Settings.{Settings}
+use Rattle.denali_run.specs.Encodings.{encoding_in}
 
 -- a claim with the graph that it is about, and the lines that refute fewer cycles
 abbrev pub claimed_on : List ℕ → Matched → Claim → Option Lines → Claimed
@@ -36,32 +37,34 @@ abbrev pub encoding_number : Encoding → ℕ
 encoding_number Wide = 1
 encoding_number Narrow = 2
 encoding_number Pinned = 3
+encoding_number Live = 4
 
--- the version of the answers that name it: in version 2 targets may have pins
+-- the version of the answers that name it: in versions 2 and 3 targets may have pins
 abbrev pub version_of : Encoding → ℕ
 version_of Wide = 1
 version_of Narrow = 1
 version_of Pinned = 2
+version_of Live = 3
 
 -- each goal with its result
 abbrev pub goals_claimed : List GoalTree → List Answered → List Claimed
 goals_claimed (goal ∷ goals) (answered ∷ more) = claimed goal.name answered ∷ goals_claimed goals more
 goals_claimed _ _ = []
 
--- what the answer to an input with these results says, which were found with the library's rules
-abbrev pub answer_to : Encoding → Library → InputTree → List Answered → AnswerText
-answer_to e library input results = record {
-  version = version_of e;
-  encoding = encoding_number e;
+-- what the answer to an input with these results says, which were found with these settings
+abbrev pub answer_to : Settings → InputTree → List Answered → AnswerText
+answer_to s input results = record {
+  version = version_of (encoding_in s);
+  encoding = encoding_number (encoding_in s);
   table = input.table;
   builtin = input.builtin;
-  library = library;
+  library = s.library;
   goals = goals_claimed input.goals results;
 }
 
 -- the bytes of that answer
-abbrev pub answer_text : Encoding → Library → InputTree → List Answered → List ℕ
-answer_text e library input results = answer_bytes (answer_to e library input results)
+abbrev pub answer_text : Settings → InputTree → List Answered → List ℕ
+answer_text s input results = answer_bytes (answer_to s input results)
 
 -- the first graph of each goal has at most as many rows as the format allows for a goal
 abbrev pub StartsWithinFormat : InputTree → Type 0

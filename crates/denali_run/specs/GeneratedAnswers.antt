@@ -7,7 +7,7 @@ use Rattle.generated_goals.specs.Generated.{generated_goal, generated_input}
 use Rattle.denali_run.specs.Right.{Right}
 use Rattle.denali_run.specs.declared.results.Answered.{Answered}
 use Rattle.denali_run.specs.declared.results.Answered.TheVariants.{Scheduled, Nowhere, SpentConflicts, SpentSize, NoWorld}
-use Rattle.cycle_encoding.specs.declared.encodings.Encoding.TheVariants.{Pinned}
+use Rattle.schedule_meaning.specs.declared.schedules.Allocation.TheVariants.{Block}
 use Rattle.denali_run.specs.declared.settings.Pick.TheVariants.{First}
 use Rattle.denali_run.specs.declared.settings.Settings.{Settings}
 use Rattle.reports.specs.declared.statuses.Status.{Status}
@@ -22,6 +22,7 @@ generated_settings = record {
   conflicts = 20000;
   pick = First;
   library = no_library;
+  allocation = Block;
 }
 
 -- the size, how many rows the graph has, and the fewest cycles
@@ -45,5 +46,5 @@ IsGeneratedLine size (NoWorld class a b) bytes ending = ⊥
 -- Some result is right for the goal that is made from the number, and the bytes and the status are those of its line.
 pub record AnswersGenerated (size : ℕ) (bytes : List ℕ) (ending : Status) : Type 0 where
   pub answered : Answered
-  pub right : Right Pinned (generated_input size) (generated_goal size) generated_settings answered
+  pub right : Right (generated_input size) (generated_goal size) generated_settings answered
   pub line : IsGeneratedLine size answered bytes ending

@@ -3,6 +3,7 @@ pub mod GeneratedAnswers
 pub mod GoalOutcomes
 pub mod MatchedGoals
 pub mod Picks
+pub mod Encodings
 pub mod Right
 pub mod TextAnswers
 pub mod TextChecks

@@ -8,7 +8,6 @@ use Rattle.denali_run.specs.Right.{AreRightResults}
 use Rattle.reports.specs.Statuses.{greater}
 use Rattle.denali_run.specs.declared.results.Answered.{Answered}
 use Rattle.denali_run.specs.declared.results.Answered.TheVariants.{Scheduled, Nowhere, SpentConflicts, SpentSize, NoWorld}
-use Rattle.cycle_encoding.specs.declared.encodings.Encoding.TheVariants.{Pinned}
 use Rattle.denali_run.specs.declared.settings.Settings.{Settings}
 use Rattle.reports.specs.declared.statuses.Status.{Status}
 use Rattle.reports.specs.declared.statuses.Status.TheVariants as status
@@ -32,7 +31,7 @@ pub record Answers (s : Settings) (text bytes : List ℕ) (status : Status) : Ty
   pub input : InputTree
   pub reads : Reads text input
   pub results : List Answered
-  pub right : AreRightResults Pinned input s results
-  pub bytes_are : bytes ≡ answer_text Pinned s.library input results
-  pub read_back : length text ≤ 2 ^ 20 → ReadsAnswer bytes (answer_to Pinned s.library input results)
+  pub right : AreRightResults input s results
+  pub bytes_are : bytes ≡ answer_text s input results
+  pub read_back : length text ≤ 2 ^ 20 → ReadsAnswer bytes (answer_to s input results)
   pub status_is : status ≡ greatest_status results

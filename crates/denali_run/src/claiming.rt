@@ -4,13 +4,13 @@ ghost use Rattle.goal_meaning.specs.Views.{input_view};
 ghost use Rattle.answer_texts.specs.Lent.{lent_claim, lent_claimed};
 ghost use Rattle.denali_run.specs.ClaimedResults as format;
 ghost use Rattle.denali_run.specs.TextAnswers as texts;
-ghost use Rattle.cycle_encoding.specs.declared.encodings.Encoding.TheVariants.{Pinned};
 
 use crate::results::{Answered, Found, Large, Matched, Missing, Tried};
+use crate::settings::Settings;
 use crate::statuses::greatest_status;
 use answer_texts::{ClaimRef, ClaimedRef, put_goal, put_head};
-use axiom_library::Library;
 use cnf_core::Lines;
+use cycle_encoding::Encoding;
 use goal_meaning::Input;
 use graph_meaning::Stop;
 use items::NoMemory;
@@ -18,10 +18,28 @@ use reports::Report;
 use std::alloc::Global;
 use text_core::Name;
 
-/// The version of the text, and the number of the encoding that it names.
-const VERSION: u8 = 2;
+/// The version of the answers that name the encoding.
+fn version_of(encoding: Encoding) -> u8
+    ensures { result ≡ format.version_of encoding }
+{
+    match encoding {
+        Encoding::Wide | Encoding::Narrow => 1,
+        Encoding::Pinned => 2,
+        Encoding::Live => 3,
+    }
+}
 
-const PINNED: u8 = 3;
+/// The number by which an answer names the encoding.
+fn encoding_number(encoding: Encoding) -> u8
+    ensures { result ≡ format.encoding_number encoding }
+{
+    match encoding {
+        Encoding::Wide => 1,
+        Encoding::Narrow => 2,
+        Encoding::Pinned => 3,
+        Encoding::Live => 4,
+    }
+}
 
 /// A claim with the graph that it is about, and the lines that refute fewer cycles.
 fn claimed_on<'a>(
@@ -110,23 +128,24 @@ fn claimed<'a>(name: &'a Name, answered: &'a Answered) -> ClaimedRef<'a>
 /// The bytes of the answer to an input with these results.
 fn print(
     alloc: Global,
-    library: Library,
+    settings: &Settings,
     input: &Input,
     results: &[Answered],
 ) -> Result<Vec<u8>, NoMemory>
     requires { length results.now ≡ length input.now.goals }
     ensures { IfOk result (λ text. text.items
-        ≡ format.answer_text Pinned library (input_view input.now) results.now) }
+        ≡ format.answer_text settings.now (input_view input.now) results.now) }
 {
+    let encoding = settings.encoding();
     let mut text = Vec::new(alloc);
     put_head(
         alloc,
         &mut text,
-        VERSION,
-        PINNED,
+        version_of(encoding),
+        encoding_number(encoding),
         &input.table,
         input.builtin,
-        library,
+        settings.library,
     )?;
     let goals = input.goals.as_slice();
     for (at, answered) in results.iter().enumerate() {
@@ -136,21 +155,21 @@ fn print(
     Ok(text)
 }
 
-/// The answer to an input, of which each goal has a result that was found with the library's rules, and the status that
-/// the results ask for.
+/// The answer to an input, of which each goal has a result that was found with these settings, and the status that the
+/// results ask for.
 pub fn answer_text(
     alloc: Global,
-    library: Library,
+    settings: &Settings,
     input: &Input,
     results: &[Answered],
 ) -> Result<Report, NoMemory>
     requires { length results.now ≡ length input.now.goals }
     ensures bytes { IfOk result (λ report. report.bytes.items
-        ≡ format.answer_text Pinned library (input_view input.now) results.now) }
+        ≡ format.answer_text settings.now (input_view input.now) results.now) }
     ensures status { IfOk result (λ report. report.status ≡ texts.greatest_status results.now) }
 {
     Ok(Report {
-        bytes: print(alloc, library, input, results)?,
+        bytes: print(alloc, settings, input, results)?,
         status: greatest_status(results),
     })
 }

@@ -5,7 +5,6 @@ ghost use Rattle.denali_run.specs.GeneratedAnswers as lines;
 ghost use Rattle.denali_run.specs.GeneratedAnswers.{AnswersGenerated, IsGeneratedLine};
 ghost use Rattle.denali_run.specs.MatchedGoals.{IsSettings};
 ghost use Rattle.denali_run.specs.Right.{Right};
-ghost use Rattle.cycle_encoding.specs.declared.encodings.Encoding.TheVariants.{Pinned};
 
 use crate::results::{Answered, Found};
 use crate::settings::{Pick, Settings};
@@ -17,7 +16,7 @@ use generated_goals::{
 };
 use items::NoMemory;
 use reports::{Report, Status};
-use schedule_meaning::MOST_CYCLES;
+use schedule_meaning::{Allocation, MOST_CYCLES};
 use std::alloc::Global;
 use text_core::{put, put_number, put_word};
 
@@ -33,6 +32,7 @@ fn generated_settings() -> Settings
         conflicts: 20000,
         pick: Pick::First,
         library: Library::none(),
+        allocation: Allocation::Block,
     }
 }
 
@@ -88,7 +88,7 @@ fn report_scheduled(alloc: Global, size: u32, found: &Found) -> Result<Report, N
 /// other two results don't come.
 fn report_generated(alloc: Global, size: u32, answered: &Answered) -> Result<Report, NoMemory>
     requires few { size ≤ 20 }
-    requires right { Right Pinned (generated_input size) (generated_goal size) lines.generated_settings answered.now }
+    requires right { Right (generated_input size) (generated_goal size) lines.generated_settings answered.now }
     ensures { IfOk result (λ r. IsGeneratedLine size answered.now r.bytes.items r.status) }
 {
     generated_goals_have_a_world();

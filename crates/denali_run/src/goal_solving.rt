@@ -6,7 +6,6 @@ ghost use Rattle.saturation.specs.GoalTerms.{rules_of};
 ghost use Rattle.denali_run.specs.MatchedGoals.{IsSettings};
 ghost use Rattle.denali_run.specs.Right.{Right};
 ghost use Rattle.denali_run.specs.Trials.{IsNoWorldAtStart, IsNoWorldInRounds};
-ghost use Rattle.cycle_encoding.specs.declared.encodings.Encoding.TheVariants.{Pinned};
 
 use crate::results::{Answered, Matched};
 use crate::searching::search;
@@ -52,7 +51,7 @@ pub fn solve_goal<F: Rule>(
     requires at { at < length input.now.goals }
     requires settings { IsSettings settings.now }
     ensures right { IfOk result (λ answered. (goal : GoalTree) → slice_get (input_view input.now).goals at ≡ Some goal
-        → Right Pinned (input_view input.now) goal settings.now answered) }
+        → Right (input_view input.now) goal settings.now answered) }
 {
     let rules = rules(alloc, input, settings.library)?;
     solve_by_rules(alloc, input, &rules, at, settings, picker)
@@ -72,7 +71,7 @@ pub(crate) fn solve_by_rules<F: Rule>(
     requires at { at < length input.now.goals }
     requires settings { IsSettings settings.now }
     ensures right { IfOk result (λ answered. (goal : GoalTree) → slice_get (input_view input.now).goals at ≡ Some goal
-        → Right Pinned (input_view input.now) goal settings.now answered) }
+        → Right (input_view input.now) goal settings.now answered) }
 {
     grown_graphs_are_one();
     axioms_make_rules_true();

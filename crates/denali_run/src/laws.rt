@@ -7,8 +7,6 @@ ghost use Rattle.denali_run.specs.ClaimedResults.{StartsWithinFormat, answer_to,
 ghost use Rattle.denali_run.specs.MatchedGoals.{IsSettings};
 ghost use Rattle.denali_run.specs.Right.{AreRightResults};
 ghost use Rattle.denali_run.specs.declared.results.Answered.{Answered as AnsweredOf};
-ghost use Rattle.cycle_encoding.specs.declared.encodings.Encoding.{Encoding as EncodingOf};
-ghost use Rattle.cycle_encoding.specs.declared.encodings.Encoding.TheVariants.{Pinned};
 ghost use Rattle.denali_run.specs.declared.settings.Settings.{Settings as SettingsOf};
 
 use alpha_encode::words_and_instructions;
@@ -21,11 +19,11 @@ use text_core::{one_splitting, printed_lines_are_lines};
 /// Two lists of right results of one input that print the same text are equal. So a reader of the bytes knows which
 /// results the answer speaks of.
 pub fn one_text_has_one_answer()
-    ensures { (e : EncodingOf) (s : SettingsOf) (input : InputTree) (results others : List AnsweredOf)
+    ensures { (s : SettingsOf) (input : InputTree) (results others : List AnsweredOf)
         → IsInput input → IsSettings s
-        → AreRightResults e input s results
-        → AreRightResults e input s others
-        → answer_text e s.library input results ≡ answer_text e s.library input others → results ≡ others }
+        → AreRightResults input s results
+        → AreRightResults input s others
+        → answer_text s input results ≡ answer_text s input others → results ≡ others }
 {
     words_and_instructions();
     printed_graphs_are_lines();
@@ -43,8 +41,8 @@ pub fn one_text_has_one_answer()
 pub fn right_answers_are_read()
     ensures { (s : SettingsOf) (input : InputTree) (results : List AnsweredOf)
         → IsInput input → IsSettings s → StartsWithinFormat input
-        → AreRightResults Pinned input s results
-        → ReadsAnswer (answer_text Pinned s.library input results) (answer_to Pinned s.library input results) }
+        → AreRightResults input s results
+        → ReadsAnswer (answer_text s input results) (answer_to s input results) }
 {
     printed_answers_are_read();
     tables_keep_limits();

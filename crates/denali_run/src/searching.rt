@@ -1,21 +1,22 @@
 // Numbers of cycles in rising order, until they are enough.
 ghost use Rattle.std.specs.Prelude.{◌≡◌, ◌<◌, ◌≤◌, IfOk, length};
 ghost use Rattle.schedule_meaning.specs.Limits.{most_cycles};
+ghost use Rattle.cycle_encoding.specs.CycleFormula.{allocation_in};
 ghost use Rattle.cycle_encoding.specs.Encodings.{IsScope};
 ghost use Rattle.goal_meaning.specs.Views.{GoalTree, InputTree};
 ghost use Rattle.graph_meaning.specs.WellFormed.{IsLaunchGraph};
 ghost use Rattle.machine_table.specs.Tables.{IsTable};
 ghost use Rattle.order_encoding.specs.WholeFormula.{formula_in};
+ghost use Rattle.denali_run.specs.Encodings.{encoding_in};
 ghost use Rattle.denali_run.specs.MatchedGoals.{IsMatched, IsSettings};
 ghost use Rattle.denali_run.specs.Picks.{PicksPlace};
 ghost use Rattle.denali_run.specs.Right.{Right};
 ghost use Rattle.denali_run.specs.Trials.{IsLargeBy, IsTrialsEnd, IsTrialsEndIn, IsTrial};
-ghost use Rattle.cycle_encoding.specs.declared.encodings.Encoding.TheVariants.{Pinned};
 
 use crate::results::{Answered, Found, Large, Matched, Missing, Tried};
 use crate::settings::Settings;
 use cnf_core::{Lines, refutations_leave_no_solution};
-use cycle_encoding::{EncodeFault, Encoding, Facts, Scope};
+use cycle_encoding::{EncodeFault, Facts, Scope};
 use graph_meaning::LaunchGraph;
 use items::{Items, NoMemory};
 use machine_table::Table;
@@ -61,9 +62,10 @@ pub(crate) fn try_cycles<F: Rule>(
     requires table { IsTable table.now }
     requires graph { IsLaunchGraph graph.now }
     requires facts { facts.now ≡ graph.now }
-    requires scope { IsScope Pinned facts.now table.now scope.now }
+    requires scope { IsScope scope.now.encoding facts.now table.now scope.now }
     requires conflicts { (1 ≤ conflicts) × (conflicts ≤ 1000000) }
-    ensures { IfOk result (IsTrial (formula_in scope.now facts.now table.now) graph.now table.now k conflicts) }
+    ensures { IfOk result (IsTrial (formula_in scope.now facts.now table.now) graph.now table.now
+        (allocation_in scope.now) k conflicts) }
 {
     refutations_leave_no_solution();
     fits_in_any_order();
@@ -103,10 +105,10 @@ fn reach<F: Rule>(
     requires table { IsTable table.now }
     requires settings { IsSettings settings.now }
     requires graph { IsLaunchGraph graph.now }
-    ensures { IfOk result (IsTrialsEndIn Pinned graph.now table.now settings.now) }
+    ensures { IfOk result (IsTrialsEndIn graph.now table.now settings.now) }
 {
     let facts = Facts::new(alloc, graph)?;
-    let scope = Scope::of(alloc, Encoding::Pinned, &facts, table)?;
+    let scope = Scope::of(alloc, settings.encoding(), &facts, table)?;
     reach_in(alloc, graph, &facts, table, &scope, settings, picker)
 }
 
@@ -124,7 +126,7 @@ fn reach_in<F: Rule>(
     requires settings { IsSettings settings.now }
     requires graph { IsLaunchGraph graph.now }
     requires facts { facts.now ≡ graph.now }
-    requires scope { IsScope Pinned facts.now table.now scope.now }
+    requires scope { IsScope (encoding_in settings.now) facts.now table.now scope.now }
     ensures { IfOk result (IsTrialsEnd (formula_in scope.now facts.now table.now) graph.now table.now settings.now) }
 {
     let mut k = 0;
@@ -168,7 +170,7 @@ fn reach_by<F: Rule + Drop>(
     requires settings { IsSettings settings.now }
     requires graph { IsLaunchGraph graph.now }
     requires rule { F.answers_places rule }
-    ensures { IfOk result (IsTrialsEndIn Pinned graph.now table.now settings.now) }
+    ensures { IfOk result (IsTrialsEndIn graph.now table.now settings.now) }
 {
     let picker = Picker::new(rule);
     reach(alloc, graph, table, settings, &picker)
@@ -185,7 +187,7 @@ pub fn fewest_cycles(
     requires table { IsTable table.now }
     requires settings { IsSettings settings.now }
     requires graph { IsLaunchGraph graph.now }
-    ensures reached { IfOk result (IsTrialsEndIn Pinned graph.now table.now settings.now) }
+    ensures reached { IfOk result (IsTrialsEndIn graph.now table.now settings.now) }
 {
     let pick = settings.pick;
     reach_by(
@@ -213,7 +215,7 @@ pub(crate) fn search<F: Rule>(
     requires settings { IsSettings settings.now }
     requires graph { IsLaunchGraph matched.graph }
     ensures { IfOk result (λ answered. (input : InputTree) (goal : GoalTree) → input.table ≡ table.now
-        → IsMatched input goal settings.now matched → Right Pinned input goal settings.now answered) }
+        → IsMatched input goal settings.now matched → Right input goal settings.now answered) }
 {
     let reached = reach(alloc, &matched.graph, table, settings, picker)?;
     let k = reached.k;
@@ -221,7 +223,14 @@ pub(crate) fn search<F: Rule>(
     let trial = reached.trial;
     match trial {
         Trial::Fitting(schedule) => {
-            let listing = assign(alloc, &matched.graph, table, k, &schedule)?;
+            let listing = assign(
+                alloc,
+                &matched.graph,
+                table,
+                settings.allocation,
+                k,
+                &schedule,
+            )?;
             let words = words_of(alloc, listing.items.as_slice())?;
             Ok(Answered::Scheduled(Found {
                 matched,

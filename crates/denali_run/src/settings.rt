@@ -1,9 +1,12 @@
 // What a solution may take.
-ghost use Rattle.std.specs.Prelude.{◌<◌, length};
+ghost use Rattle.std.specs.Prelude.{◌≡◌, ◌<◌, length};
+ghost use Rattle.denali_run.specs.Encodings as encodings;
 ghost use Rattle.denali_run.specs.Picks.{PicksPlace};
 
 use axiom_library::Library;
+use cycle_encoding::Encoding;
 use pick_rule::{busiest_place, first_place, last_place};
+use schedule_meaning::Allocation;
 
 /// How the solver's next decision is picked among the free variables: `First` is the one with the least number, `Last`
 /// the one with the greatest, and `Busy` the first of those that stand in the most lemmas so far.
@@ -31,7 +34,8 @@ impl Pick {
 
 /// The limits of the work on a goal: the most rounds, 0 to 16; the most rows of its graph, 1 to 4096, where a round
 /// that might pass them isn't begun; the most cycles, 0 to 24; the most conflicts of the solver for each number of
-/// cycles, 1 to 1000000. The rules of `library` join those of the goal's text.
+/// cycles, 1 to 1000000. The rules of `library` join those of the goal's text. `allocation` says how long launches keep
+/// their registers of the pool.
 #[derive(Clone, Copy, PartialEq, Eq, Debug)]
 pub struct Settings {
     pub rounds: u32,
@@ -40,4 +44,24 @@ pub struct Settings {
     pub conflicts: u32,
     pub pick: Pick,
     pub library: Library,
+    pub allocation: Allocation,
+}
+
+/// The encoding whose schedules keep their registers so long, and may have pins.
+pub fn encoding_for(allocation: Allocation) -> Encoding
+    ensures { result ≡ encodings.encoding_for allocation }
+{
+    match allocation {
+        Allocation::Block => Encoding::Pinned,
+        Allocation::Live => Encoding::Live,
+    }
+}
+
+impl Settings {
+    /// The encoding by which schedules are asked for.
+    pub fn encoding(&self) -> Encoding
+        ensures { result ≡ encodings.encoding_in self.now }
+    {
+        encoding_for(self.allocation)
+    }
 }

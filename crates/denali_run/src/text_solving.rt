@@ -8,7 +8,6 @@ ghost use Rattle.denali_run.specs.MatchedGoals.{IsSettings};
 ghost use Rattle.denali_run.specs.Picks.{PicksPlace};
 ghost use Rattle.denali_run.specs.Right.{AreRightResults};
 ghost use Rattle.denali_run.specs.TextAnswers.{Answers};
-ghost use Rattle.cycle_encoding.specs.declared.encodings.Encoding.TheVariants.{Pinned};
 
 use crate::claiming::answer_text;
 use crate::goal_solving::solve_by_rules;
@@ -31,7 +30,7 @@ fn solve_goals<F: Rule>(
 ) -> Result<Vec<Answered>, NoMemory>
     requires input { IsInput (input_view input.now) }
     requires settings { IsSettings settings.now }
-    ensures right { IfOk result (λ results. AreRightResults Pinned (input_view input.now)
+    ensures right { IfOk result (λ results. AreRightResults (input_view input.now)
         settings.now results.items) }
 {
     let rules = rules(alloc, input, settings.library)?;
@@ -52,7 +51,7 @@ fn solve_by<F: Rule + Drop>(
     requires input { IsInput (input_view input.now) }
     requires settings { IsSettings settings.now }
     requires rule { F.answers_places rule }
-    ensures right { IfOk result (λ results. AreRightResults Pinned (input_view input.now)
+    ensures right { IfOk result (λ results. AreRightResults (input_view input.now)
         settings.now results.items) }
 {
     let picker = Picker::new(rule);
@@ -67,7 +66,7 @@ pub fn solve_input(
 ) -> Result<Vec<Answered>, NoMemory>
     requires input { IsInput (input_view input.now) }
     requires settings { IsSettings settings.now }
-    ensures right { IfOk result (λ results. AreRightResults Pinned (input_view input.now)
+    ensures right { IfOk result (λ results. AreRightResults (input_view input.now)
         settings.now results.items) }
 {
     let pick = settings.pick;
@@ -95,5 +94,5 @@ pub fn solve_text(alloc: Global, text: &[u8], settings: &Settings) -> Result<Rep
     right_answers_are_read();
     let input = read(alloc, text)?;
     let results = solve_input(alloc, &input, settings)?;
-    Ok(answer_text(alloc, settings.library, &input, &results)?)
+    Ok(answer_text(alloc, settings, &input, &results)?)
 }

@@ -18,6 +18,7 @@ use Rattle.goal_meaning.specs.Views.{GoalTree}
 use Rattle.goal_meaning.specs.declared.goals.InputReg.{InputReg}
 use Rattle.saturation.specs.GoalTerms.{input_term}
 use Rattle.saturation.specs.StandsFor.{HasClassIn, IsGuardOf, IsInputClass, IsSetClass, StandsFor, graph_view}
+use Rattle.schedule_meaning.specs.declared.schedules.Allocation.TheVariants.{Block}
 use Rattle.schedule_meaning.specs.Fits.{CanLaunch, EndsBy, Fits, IsLeft, KeepsMemory, UsesMemory}
 use Rattle.schedule_meaning.specs.Launches.{Gives, IsClassOfInput, gives_word, is_load, is_store, launches, memory_class_at, ready_in}
 use Rattle.schedule_meaning.specs.Plain.{FitsWithoutPins, IsPlainReached, WaitsPlain}
@@ -105,7 +106,7 @@ module _ (g : LaunchGraph) (n : ℕ) (ls : List Launch) (class : ℕ) (made : Is
     last = λ t h. inl (entry_stays g s sets name, each (λ m. IsTrue (launches g is_store m) → t ≤ m.cycle) (λ m s h. absurd (no_store g n m s h)));
   }
 
-  chain_fits_plain : FitsWithoutPins g ev6 n ls
+  chain_fits_plain : FitsWithoutPins g ev6 Block n ls
   chain_fits_plain = record {
     rows = each (CanLaunch g ev6) (can_launch g n);
     apart = made.apart;
@@ -118,13 +119,13 @@ module _ (g : LaunchGraph) (n : ℕ) (ls : List Launch) (class : ℕ) (made : Is
     pool = (let f = count_by-le-length (launches g gives_word) ls in let c = made.count in omega arith);
   }
 
-  pub chain_fits : s.pin ≡ None → Fits g ev6 n ls
+  pub chain_fits : s.pin ≡ None → Fits g ev6 Block n ls
   chain_fits plain =
       let no_pins : HasNoPins g = subst (All (λ s. s.pin ≡ None)) (sym sets) (All-cons (λ s. s.pin ≡ None) s [] plain (All-nil (λ s. s.pin ≡ None))) in
-      fits_where_plain g no_pins ev6 n ls chain_fits_plain (each (λ l. l.to ≡ Pool) (λ l s. s.to))
+      fits_where_plain g no_pins ev6 Block n ls chain_fits_plain (each (λ l. l.to ≡ Pool) (λ l s. s.to))
 
 -- the goal has no lets, so it is the goal without them
-pub scheduled : ((size : ℕ) → size ≤ 20 → expanded (generated_goal size) ≡ generated_goal size) → (size : ℕ) (g : LaunchGraph) → size ≤ 20 → IsLaunchGraph g → StandsFor (generated_input size) (generated_goal size) g → (ls : List Launch) × Fits g ev6 size ls
+pub scheduled : ((size : ℕ) → size ≤ 20 → expanded (generated_goal size) ≡ generated_goal size) → (size : ℕ) (g : LaunchGraph) → size ≤ 20 → IsLaunchGraph g → StandsFor (generated_input size) (generated_goal size) g → (ls : List Launch) × Fits g ev6 Block size ls
 scheduled same size g few graph stands =
     let of = stands.of in
     let a = input_is g graph (named_input (codes "a") 9) (first_zip (IsInputClass [] g) g.inputs _ _ of.inputs) in

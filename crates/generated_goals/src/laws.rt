@@ -8,6 +8,7 @@ ghost use Rattle.graph_meaning.specs.WellFormed.{IsLaunchGraph};
 ghost use Rattle.graph_meaning.specs.declared.graphs.LaunchGraph.{LaunchGraph};
 ghost use Rattle.saturation.specs.StandsFor.{StandsFor};
 ghost use Rattle.schedule_meaning.specs.Fits.{Fits};
+ghost use Rattle.schedule_meaning.specs.declared.schedules.Allocation.TheVariants.{Block};
 ghost use Rattle.schedule_meaning.specs.declared.schedules.Launch.{Launch as LaunchOf};
 ghost use Rattle.generated_goals.specs.Generated.{generated_goal, generated_input};
 
@@ -31,7 +32,7 @@ pub fn generated_goals_have_a_world()
 /// launched in each cycle, in the slot U0.
 pub fn generated_goals_can_be_scheduled()
     ensures { (size : ℕ) (g : LaunchGraph) → size ≤ 20 → IsLaunchGraph g
-        → StandsFor (generated_input size) (generated_goal size) g → (ls : List LaunchOf) × Fits g ev6 size ls }
+        → StandsFor (generated_input size) (generated_goal size) g → (ls : List LaunchOf) × Fits g ev6 Block size ls }
 {
     goals_without_lets_are_expanded();
 }

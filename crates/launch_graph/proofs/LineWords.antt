@@ -77,7 +77,7 @@ unpinned_lines sets h k d lt = by_pin (get_or sets k d).pin (h k d lt).2
   where
     by_pin : (o : Option ℕ) → PinFits 1 o → o ≡ None
     by_pin None fits = refl
-    by_pin (Some r) fits = (let one : ◌≡◌ {A = ℕ} 1 2 = fits.0 in absurd (omega (arith, one)))
+    by_pin (Some r) fits = (let two = fits.0 in absurd (omega (arith, two)))
 
 pub few_rows : (g : LaunchGraph) → length (map said_row g.rows) ≤ 1000000 → length g.rows ≤ 1000000
 few_rows g few = (let n = map_count said_row g.rows in omega (arith, n, few))
@@ -144,8 +144,8 @@ module _ (g : LaunchGraph) (is : IsLaunchGraph g) where
   pub rows_fit : All (λ (r : RowLine). IsRowLine (row_words r) r) (map said_row g.rows)
   rows_fit = All-map (λ (r : RowLine). IsRowLine (row_words r) r) said_row g.rows says_rows
 
-  -- version 2 has each pin, and each version a set without one
-  pin_fits : (version : ℕ) → (version ≡ 2) ⊎ HasNoPins g → (k : ℕ) (d : SetClass) → k < length g.sets → PinFits version (get_or g.sets k d).pin
+  -- from version 2 on there is each pin, and each version a set without one
+  pin_fits : (version : ℕ) → (2 ≤ version) ⊎ HasNoPins g → (k : ℕ) (d : SetClass) → k < length g.sets → PinFits version (get_or g.sets k d).pin
   pin_fits version (inl two) k d lt = by_pin (get_or g.sets k d).pin (is.pins k d lt)
     where
       by_pin : (o : Option ℕ) → IfSome o (λ r. r < 31) → PinFits version o
@@ -153,7 +153,7 @@ module _ (g : LaunchGraph) (is : IsLaunchGraph g) where
       by_pin (Some r) low = (two, low)
   pin_fits version (inr unpinned) k d lt = subst (PinFits version) (sym (unpinned k d lt)) tt
 
-  pub are_graph_lines : (version : ℕ) → (version ≡ 2) ⊎ HasNoPins g → length g.rows ≤ 1000000 → AreGraphLines version (said g)
+  pub are_graph_lines : (version : ℕ) → (2 ≤ version) ⊎ HasNoPins g → length g.rows ≤ 1000000 → AreGraphLines version (said g)
   are_graph_lines version tells few =
       record {
         few = (let n : length (map said_row g.rows) ≡ length g.rows = count in omega arith);

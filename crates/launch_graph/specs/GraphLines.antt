@@ -62,10 +62,10 @@ graph_lines g =
     ++ (entry_words g.entry
     ∷ (map in_words g.inputs ++ (pool_words g.pool ∷ (guard_lines g.guard ++ map set_words g.sets)))))
 
--- a pin is a register, and version 2 alone has pins
+-- a pin is a register, and there are pins from version 2 on
 abbrev pub PinFits : ℕ → Option ℕ → Type 0
 PinFits version None = ⊤
-PinFits version (Some r) = (version ≡ 2) × (r < 31)
+PinFits version (Some r) = (2 ≤ version) × (r < 31)
 
 -- the memory has no pin
 abbrev pub SetFits : ℕ → SetClass → Type 0

@@ -16,10 +16,11 @@ use text_core::printed_lines_are_lines;
 use word_ops::operators_are_listed;
 
 /// The lines that a well-formed graph prints are lines of words, wherever they stand in a text; with at most 1,000,000
-/// rows they have the form of a graph's lines in version 2, and without pins in version 1 too.
+/// rows they have the form of a graph's lines from version 2 on, and without pins in version 1 too.
 pub fn printed_graphs_are_lines()
     ensures form { (g : Graph) → IsLaunchGraph g → HasNoPins g → length g.rows ≤ 1000000 → AreGraphLines 1 (said g) }
-    ensures pinned { (g : Graph) → IsLaunchGraph g → length g.rows ≤ 1000000 → AreGraphLines 2 (said g) }
+    ensures pinned { (version : ℕ) (g : Graph) → 2 ≤ version → IsLaunchGraph g → length g.rows ≤ 1000000
+        → AreGraphLines version (said g) }
     ensures words { (g : Graph) → IsLaunchGraph g → All CanBeLine (graph_lines (said g)) }
     ensures lines { (g : Graph) (place : ℕ) → IsLaunchGraph g
         → AreLines place (placed_lines place (graph_lines (said g))) (lines_text (graph_lines (said g))) }
@@ -50,8 +51,8 @@ pub fn one_graph()
     classes_are_multiples();
 }
 
-/// What `one_graph` says of version 1 holds of each version. In version 2 the lines of each well-formed graph are read
-/// as that graph, with its pins. What is a graph in version 1 is the same one in version 2.
+/// What `one_graph` says of version 1 holds of each version. From version 2 on the lines of each well-formed graph are
+/// read as that graph, with its pins. What is a graph in version 1 is the same one in each version.
 pub fn one_graph_of_each_version()
     ensures graph { (version : ℕ) (lines : List Line) (from next other : ℕ) (g h : Graph)
         → IsGraphOf version lines from next g → IsGraphOf version lines from other h → (next ≡ other) × (g ≡ h) }
@@ -60,11 +61,11 @@ pub fn one_graph_of_each_version()
     ensures first { (version : ℕ) (lines : List Line) (from place other : ℕ) (kind another : Kind)
         → IsFirstFaultOf version lines from place kind → IsFirstFaultOf version lines from other another
         → (place ≡ other) × (kind ≡ another) }
-    ensures printed { (lines : List Line) (from next : ℕ) (g : Graph) → IsLaunchGraph g
+    ensures printed { (version : ℕ) (lines : List Line) (from next : ℕ) (g : Graph) → 2 ≤ version → IsLaunchGraph g
         → length g.rows ≤ 1000000 → from ≤ next → next ≤ length lines → words_between lines from next ≡ graph_lines (said g)
-        → EndsGraph (words_from lines next) → IsGraphOf 2 lines from next g }
-    ensures unpinned { (lines : List Line) (from next : ℕ) (g : Graph) → IsGraphOf 1 lines from next g
-        → IsGraphOf 2 lines from next g × HasNoPins g }
+        → EndsGraph (words_from lines next) → IsGraphOf version lines from next g }
+    ensures unpinned { (version : ℕ) (lines : List Line) (from next : ℕ) (g : Graph) → IsGraphOf 1 lines from next g
+        → IsGraphOf version lines from next g × HasNoPins g }
 {
     operators_are_listed();
     classes_are_multiples();

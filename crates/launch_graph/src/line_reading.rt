@@ -169,7 +169,7 @@ fn pinned_set_line(
     }))
 }
 
-/// The target of a line. Version 2 alone has pins.
+/// The target of a line. There are pins from version 2 on.
 pub(crate) fn set_line(
     alloc: Global,
     version: u8,
@@ -180,7 +180,7 @@ pub(crate) fn set_line(
     ensures { IfOk result (λ found. MatchOption found (SaysNone (IsSetLine version) (line_at text.now line).words)
         (IsSetLine version (line_at text.now line).words)) }
 {
-    if version == 2 && text.words(line) == 4 {
+    if version >= 2 && text.words(line) == 4 {
         return pinned_set_line(alloc, text, line);
     }
     plain_set_line(alloc, text, line)

@@ -68,8 +68,8 @@ fn graph_at(
     ))
 }
 
-/// Reads the launch graph whose lines begin at the line `from`, and gives the number of the line behind it. In version 2
-/// a set may tell its pin; in version 1, and in each other one, none does. Only a well-formed graph is read, and one
+/// Reads the launch graph whose lines begin at the line `from`, and gives the number of the line behind it. From version
+/// 2 on a set may tell its pin; in version 1, and in 0, none does. Only a well-formed graph is read, and one
 /// that was printed is read as itself. A fault is the first of the lines: BadLine, BadRow or BadClass. The cost is
 /// linear in the text and in the number of rows that the first line tells, beside look-ups among at most sixteen names
 /// of declared operators, and for each pin among those before it; whether an earlier row applies the same is looked up

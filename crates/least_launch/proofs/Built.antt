@@ -5,6 +5,7 @@ use Rattle.std.specs.Prelude.{All, IfOk, OnOk}
 use Rattle.cnf_core.specs.Counter.{at_most_clauses, at_most_size, at_most_vars}
 use Rattle.cnf_core.specs.Formula.{Formula, IsLitOf, Satisfies}
 use Rattle.cnf_core.specs.declared.literal.Lit.{Lit}
+use Rattle.cycle_encoding.specs.Allocations.{allocation_of}
 use Rattle.cycle_encoding.specs.CycleFormula.{Listed, launch_vars}
 use Rattle.cycle_encoding.specs.Families.{any}
 use Rattle.cycle_encoding.specs.Faults.{EncodeFaultIs}
@@ -13,12 +14,15 @@ use Rattle.cycle_encoding.specs.Shapes.{numbered, shown}
 use Rattle.cycle_encoding.specs.declared.plans.EncodeFault.{EncodeFault}
 use Rattle.cycle_encoding.specs.declared.plans.EncodeFault.TheVariants.{Size, Memory}
 use Rattle.cycle_encoding.proofs.Blocks.{vars-over}
+use Rattle.denali_run.specs.Encodings.{encoding_for}
 use Rattle.graph_meaning.specs.declared.graphs.LaunchGraph.{LaunchGraph}
 use Rattle.machine_table.specs.declared.tables.Table.{Table}
 use Rattle.order_encoding.proofs.Limits.{within_clauses, within_vars}
 use Rattle.schedule_meaning.specs.Fits.{Fits}
+use Rattle.schedule_meaning.specs.declared.schedules.Allocation.{Allocation}
 use Rattle.schedule_meaning.specs.declared.schedules.Launch.{Launch}
 use Rattle.least_launch.specs.FewerLaunches.{fewer_formula, launch_literals, with_at_most}
+use Rattle.least_launch.proofs.Allocated.{allocated}
 use Rattle.least_launch.proofs.CountsOf.{SizesAre}
 use Rattle.least_launch.proofs.Launched.{count_is}
 
@@ -80,16 +84,20 @@ pub if_ok_on : {A E : Type 0} (P Q : A → Type 0) (R : Type 0) (r : Result A E)
 if_ok_on P Q R (Ok a) f h k = f a h k
 if_ok_on P Q R (Err x) f h k = tt
 
-module _ (g : LaunchGraph) (table : Table) (k n : ℕ) (l : Listed) (f : Formula) (launches : List Launch)
-    (ef : f ≡ fewer_formula g table k l n) (el : launches ≡ l.launches) where
+-- the clauses of the encoding that the allocation gives
+module _ (g : LaunchGraph) (table : Table) (a : Allocation) (k n : ℕ) (l : Listed) (f : Formula)
+    (launches : List Launch) (ef : f ≡ fewer_formula g table k l n) (el : launches ≡ l.launches) where
   pub shows_few : ((v : ℕ → Bool) → Satisfies v (fewer_formula g table k l n).clauses
-      → Fits g table k (shown v (launch_vars l)) × (length (shown v (launch_vars l)) ≤ n))
+      → Fits g table (allocation_of (encoding_for a)) k (shown v (launch_vars l))
+      × (length (shown v (launch_vars l)) ≤ n))
       → (v : ℕ → Bool) → Satisfies v f.clauses
-      → Fits g table k (shown v (numbered 0 launches)) × (length (shown v (numbered 0 launches)) ≤ n)
+      → Fits g table a k (shown v (numbered 0 launches)) × (length (shown v (numbered 0 launches)) ≤ n)
   shows_few says v h =
-      subst (λ (ls : List Launch). Fits g table k (shown v (numbered 0 ls)) × (length (shown v (numbered 0 ls)) ≤ n))
+      subst (λ (ls : List Launch). Fits g table a k (shown v (numbered 0 ls)) × (length (shown v (numbered 0 ls)) ≤ n))
       (sym el)
-      (says v (subst (λ (x : Formula). Satisfies v x.clauses) ef h))
+      (subst (λ (x : Allocation). Fits g table x k (shown v (launch_vars l)) × (length (shown v (launch_vars l)) ≤ n))
+      (allocated a)
+      (says v (subst (λ (x : Formula). Satisfies v x.clauses) ef h)))
 
   pub some_few : (v : ℕ → Bool) → Satisfies v (fewer_formula g table k l n).clauses → Satisfies v f.clauses
   some_few v h = subst (λ (x : Formula). Satisfies v x.clauses) (sym ef) h

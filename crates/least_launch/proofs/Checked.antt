@@ -9,11 +9,12 @@ use Rattle.cycle_encoding.specs.CycleFormula.{Scope}
 use Rattle.cycle_encoding.specs.Encodings.{IsScope}
 use Rattle.cycle_encoding.specs.CycleFormula.{listed_in}
 use Rattle.cycle_encoding.specs.Plans.{IsTooLarge, PassesLimit}
-use Rattle.cycle_encoding.specs.declared.encodings.Encoding.TheVariants.{Pinned}
 use Rattle.cycle_encoding.specs.declared.counts.Sizes.{Sizes}
 use Rattle.cycle_encoding.proofs.TooLarge.{few_clauses, few_vars, keeps_within, limit_passed}
+use Rattle.denali_run.specs.Encodings.{encoding_for}
 use Rattle.graph_meaning.specs.declared.graphs.LaunchGraph.{LaunchGraph}
 use Rattle.machine_table.specs.declared.tables.Table.{Table}
+use Rattle.schedule_meaning.specs.declared.schedules.Allocation.{Allocation}
 use Rattle.least_launch.specs.FewerLaunches.{fewer_in}
 use Rattle.least_launch.specs.TailVerdicts.{HasTrueSize, HoldsOf, IsByClauses, SaysTrue, IsTailOutcome, TellsNoneFewer, HasTrueLines, by_clauses, launches_of}
 use Rattle.least_launch.specs.declared.tails.Tail.{Tail}
@@ -82,21 +83,21 @@ all_hold f (tails.Spent n lines) v size true_lines is =
 all_hold f (tails.Size n vars clauses) v size true_lines is =
     subst (λ x. IsByClauses (tails.Size n vars clauses) x f) (sym is) (size, true_lines, refl)
 
-module _ (g : LaunchGraph) (table : Table) (k : ℕ) where
+module _ (g : LaunchGraph) (table : Table) (a : Allocation) (k : ℕ) where
   -- where a verdict says that no schedule has fewer launches, this holds
-  pub says_true : (n : ℕ) (tail : Tail) (v : TailVerdict) → launches_of tail ≡ n + 1 → TellsNoneFewer g table k n tail
-      → HoldsOf tail v → SaysTrue g table k v
+  pub says_true : (n : ℕ) (tail : Tail) (v : TailVerdict) → launches_of tail ≡ n + 1
+      → TellsNoneFewer g table a k n tail → HoldsOf tail v → SaysTrue g table a k v
   says_true n (tails.Least m lines) v size none is =
-      subst (SaysTrue g table k) (sym is) (λ ls fits. (let more = none ls fits in omega (arith, size, more)))
-  says_true n (tails.Spent m lines) v size none is = subst (SaysTrue g table k) (sym is) tt
-  says_true n (tails.Size m vars clauses) v size none is = subst (SaysTrue g table k) (sym is) tt
+      subst (SaysTrue g table a k) (sym is) (λ ls fits. (let more = none ls fits in omega (arith, size, more)))
+  says_true n (tails.Spent m lines) v size none is = subst (SaysTrue g table a k) (sym is) tt
+  says_true n (tails.Size m vars clauses) v size none is = subst (SaysTrue g table a k) (sym is) tt
 
   -- no schedule has fewer launches than none
-  pub none_says_true : (tail : Tail) (v : TailVerdict) → launches_of tail ≡ 0 → HoldsOf tail v → SaysTrue g table k v
+  pub none_says_true : (tail : Tail) (v : TailVerdict) → launches_of tail ≡ 0 → HoldsOf tail v → SaysTrue g table a k v
   none_says_true (tails.Least m lines) v size is =
-      subst (SaysTrue g table k) (sym is) (λ ls fits. omega (arith, size))
-  none_says_true (tails.Spent m lines) v size is = subst (SaysTrue g table k) (sym is) tt
-  none_says_true (tails.Size m vars clauses) v size is = subst (SaysTrue g table k) (sym is) tt
+      subst (SaysTrue g table a k) (sym is) (λ ls fits. omega (arith, size))
+  none_says_true (tails.Spent m lines) v size is = subst (SaysTrue g table a k) (sym is) tt
+  none_says_true (tails.Size m vars clauses) v size is = subst (SaysTrue g table a k) (sym is) tt
 
 pub where_none : {A P : Type 0} (Q : A → Type 0) (o : Option A) → o ≡ None → MatchOption o P Q → P
 where_none Q None is h = h
@@ -117,12 +118,12 @@ if_none None not h = h
 if_none (Some x) not h = absurd (not x refl)
 
 -- what is said of so many launches is decided by the clauses for one fewer, over what a scope of the graph gives
--- variables
-pub by_clauses_for : (g facts : LaunchGraph) (table : Table) (k count : ℕ) (s : Scope) → IsScope Pinned g table s
-    → k ≤ most_cycles
+-- variables, for the encoding that the allocation gives
+pub by_clauses_for : (g facts : LaunchGraph) (table : Table) (a : Allocation) (k count : ℕ) (s : Scope)
+    → IsScope (encoding_for a) g table s → k ≤ most_cycles
     → (tail : Tail) (v : TailVerdict) → count ≡ launches_of tail → 1 ≤ count → facts ≡ g
-    → IsByClauses tail v (fewer_in s facts table k (count - 1)) → IsTailOutcome g table k count tail v
-by_clauses_for g facts table k count s scope few tail v same some is by =
+    → IsByClauses tail v (fewer_in s facts table k (count - 1)) → IsTailOutcome g table a k count tail v
+by_clauses_for g facts table a k count s scope few tail v same some is by =
     by_clauses same
     (record {
       some = some;

@@ -12,6 +12,7 @@ use Rattle.cycle_encoding.proofs.Shown.{both, count_of, left, right}
 use Rattle.graph_meaning.specs.declared.graphs.LaunchGraph.{LaunchGraph}
 use Rattle.machine_table.specs.declared.tables.Table.{Table}
 use Rattle.order_encoding.specs.WholeFormula.{whole_formula}
+use Rattle.order_encoding.proofs.Composed.{launches_within}
 use Rattle.schedule_meaning.specs.Fits.{Collide}
 use Rattle.schedule_meaning.specs.declared.schedules.Launch.{Launch}
 use Rattle.least_launch.specs.FewerLaunches.{fewer_formula, launch_literals}
@@ -34,7 +35,7 @@ module _ (exact : AreExact) (g : LaunchGraph) (table : Table) (k n : ℕ) (l : L
   xs = launch_vars l
 
   pub launches_first : 0 + length l.launches ≤ before.vars
-  launches_first = omega arith
+  launches_first = (let up = launches_within g table k l in omega (arith, up))
 
   pub lits_over : All (IsLitOf before.vars) (launch_literals l.launches)
   lits_over = vars-over any 0 before.vars l.launches launches_first

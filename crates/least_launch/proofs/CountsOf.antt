@@ -5,7 +5,7 @@ use Rattle.cnf_core.specs.Counter.{at_most_clauses, at_most_size, at_most_vars}
 use Rattle.cnf_core.specs.Formula.{Formula}
 use Rattle.cnf_core.specs.declared.literal.Lit.{Lit}
 use Rattle.cycle_encoding.specs.Counts.{row_count}
-use Rattle.cycle_encoding.specs.CycleFormula.{Scope}
+use Rattle.cycle_encoding.specs.CycleFormula.{Scope, allocation_in}
 use Rattle.cycle_encoding.specs.Counts.{row_destinations}
 use Rattle.cycle_encoding.specs.CycleFormula.{listed_in}
 use Rattle.cycle_encoding.proofs.PinnedTotals.{destined-count}
@@ -20,12 +20,13 @@ use Rattle.least_launch.proofs.Launched.{count_is}
 module _ (g : LaunchGraph) (table : Table) (k : ℕ) (s : Scope) where
   -- how many launches of a row have variables
   abbrev pub row_size : ℕ → ℕ
-  row_size row = row_count g table k s row * sum_by (λ (to : To). 1) (row_destinations g row)
+  row_size row = row_count g table k s row * sum_by (λ (to : To). 1) (row_destinations g (allocation_in s) row)
 
   pub row_is : (row count destinations : ℕ) → count ≡ row_count g table k s row
-      → destinations ≡ length (row_destinations g row) → count * destinations ≡ row_size row
+      → destinations ≡ length (row_destinations g (allocation_in s) row) → count * destinations ≡ row_size row
   row_is row count destinations c d =
-      ap (λ n. count * n) (d ∙ sym (sum_ones g row)) ∙ ap (λ n. n * sum_by (λ (to : To). 1) (row_destinations g row)) c
+      ap (λ n. count * n) (d ∙ sym (sum_ones g (allocation_in s) row))
+      ∙ ap (λ n. n * sum_by (λ (to : To). 1) (row_destinations g (allocation_in s) row)) c
 
   -- over all rows
   pub rows_are : (n : ℕ) → n ≡ length g.rows + 1 + length g.sets → sum_by row_size (range_with_len 0 n)

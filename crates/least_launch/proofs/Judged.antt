@@ -12,12 +12,14 @@ use Rattle.answer_texts.specs.declared.answers.Claim.{Claim}
 use Rattle.answer_texts.specs.declared.answers.Claim.TheVariants as claims
 use Rattle.answer_texts.specs.declared.answers.Claimed.{Claimed}
 use Rattle.cnf_core.specs.Formula.{Formula}
+use Rattle.cycle_encoding.specs.Allocations.{allocation_of}
 use Rattle.cycle_encoding.specs.declared.encodings.Encoding.{Encoding}
 use Rattle.graph_meaning.specs.WellFormed.{IsLaunchGraph}
 use Rattle.graph_meaning.specs.declared.graphs.LaunchGraph.{LaunchGraph}
 use Rattle.machine_table.specs.declared.tables.Table.{Table}
 use Rattle.register_assign.specs.declared.listings.Where.{Where}
 use Rattle.schedule_meaning.specs.Fits.{Fits}
+use Rattle.schedule_meaning.specs.declared.schedules.Allocation.{Allocation}
 use Rattle.schedule_meaning.specs.declared.schedules.Schedule.{Schedule}
 use Rattle.least_launch.specs.LeastChecks.{IsTailJudged}
 use Rattle.least_launch.specs.TailVerdicts.{FitsAsClaimed, HoldsOf, ClaimsSchedule, IsTailOutcome, IsTrueVerdict, SaysTrue, by_clauses, launches_of, miscounted, no_launches, plain, tailed}
@@ -44,15 +46,17 @@ module _ (e : Encoding) (table : Table) (c : Claimed) where
     told_count launches (tails.Size n vars clauses) h =
         absurd (let e : verdicts.Least launches ≡ verdicts.Most n = h in cc)
 
-    counted_is : (launches : ℕ) → IsTailOutcome g table k (length schedule.launches) tail (verdicts.Least launches)
+    counted_is : (launches : ℕ)
+        → IsTailOutcome g table (allocation_of e) k (length schedule.launches) tail (verdicts.Least launches)
         → length schedule.launches ≡ launches
     counted_is launches (miscounted ne v) =
         absurd (let e : verdicts.Least launches ≡ verdicts.Count (launches_of tail) = v in cc)
     counted_is launches (no_launches same none h) = same ∙ sym (told_count launches tail h)
     counted_is launches (by_clauses same of) = same ∙ sym (told_count launches tail of.holds.2)
 
-    true_verdict : (v : TailVerdict) → IsSound e table c → IsTailOutcome g table k (length schedule.launches) tail v
-        → SaysTrue g table k v → IsTrueVerdict e table c v
+    true_verdict : (v : TailVerdict) → IsSound e table c
+        → IsTailOutcome g table (allocation_of e) k (length schedule.launches) tail v
+        → SaysTrue g table (allocation_of e) k v → IsTrueVerdict e table c v
     true_verdict (verdicts.Plain v) sound o says = λ holds. sound
     true_verdict (verdicts.Count n) sound o says = tt
     true_verdict (verdicts.Size vars clauses) sound o says = tt
@@ -73,17 +77,22 @@ module _ (e : Encoding) (table : Table) (c : Claimed) where
     )
     true_verdict (verdicts.Most n) sound o says = sound
 
-    pub tail_judged : (v : TailVerdict) → IsVerdict e table c Holds → IsSound e table c
-        → IsTailOutcome g table k (length schedule.launches) tail v → SaysTrue g table k v
+    -- what was tested by an allocation, which is that of the encoding
+    pub tail_judged : (a : Allocation) → allocation_of e ≡ a → (v : TailVerdict) → IsVerdict e table c Holds
+        → IsSound e table c → IsTailOutcome g table a k (length schedule.launches) tail v → SaysTrue g table a k v
         → IsTailJudged e table c (Some tail) v
-    tail_judged v verdict sound o says =
-        record { verdict = tailed verdict is claim o; sound = true_verdict v sound o says }
+    tail_judged a kept v verdict sound o says =
+        let outcome : IsTailOutcome g table (allocation_of e) k (length schedule.launches) tail v =
+        subst (λ (x : Allocation). IsTailOutcome g table x k (length schedule.launches) tail v) (sym kept) o in
+        let says_so : SaysTrue g table (allocation_of e) k v =
+        subst (λ (x : Allocation). SaysTrue g table x k v) (sym kept) says in
+        record { verdict = tailed verdict is claim outcome; sound = true_verdict v sound outcome says_so }
 
-    pub fits_as_claimed : IsSound e table c → Fits g table k schedule.launches
+    pub fits_as_claimed : IsSound e table c → Fits g table (allocation_of e) k schedule.launches
     fits_as_claimed sound =
         let same : sound.graph ≡ g = (let e : Some sound.graph ≡ Some g = sym sound.printed ∙ is in cc) in
-        let h = subst (IsTrueClaim table sound.graph sound.clauses_for) claim sound.claim in
-        subst (λ (x : LaunchGraph). Fits x table k schedule.launches) same h.0
+        let h = subst (IsTrueClaim table (allocation_of e) sound.graph sound.clauses_for) claim sound.claim in
+        subst (λ (x : LaunchGraph). Fits x table (allocation_of e) k schedule.launches) same h.0
 
 -- of a goal with a graph: it is well formed, and its claim is within bounds
 pub graph_formed : (version : ℕ) (c : Claimed) (g : LaunchGraph) → IsClaimed version c → c.graph ≡ Some g
@@ -109,22 +118,22 @@ unsaid claim said none some s = false≢true (subst (λ (o : Option Tail). IsTru
 
 -- ---- claims
 
-fits_where : (table : Table) (g : LaunchGraph) (clauses_for : ℕ → Formula) (claim : Claim)
-    → IsTrueClaim table g clauses_for claim
-    → FitsAsClaimed g table claim
-fits_where table g clauses_for (claims.Scheduled k schedule words places) h = h.0
-fits_where table g clauses_for (claims.NoWorld class a b) h = tt
-fits_where table g clauses_for (claims.Missing k) h = tt
-fits_where table g clauses_for (claims.SpentConflicts k lemmas) h = tt
-fits_where table g clauses_for (claims.SpentSize k vars clauses) h = tt
+fits_where : (table : Table) (al : Allocation) (g : LaunchGraph) (clauses_for : ℕ → Formula) (claim : Claim)
+    → IsTrueClaim table al g clauses_for claim
+    → FitsAsClaimed g table al claim
+fits_where table al g clauses_for (claims.Scheduled k schedule words places) h = h.0
+fits_where table al g clauses_for (claims.NoWorld class a b) h = tt
+fits_where table al g clauses_for (claims.Missing k) h = tt
+fits_where table al g clauses_for (claims.SpentConflicts k lemmas) h = tt
+fits_where table al g clauses_for (claims.SpentSize k vars clauses) h = tt
 
 -- the schedule that is claimed fits where the claim is true
 pub claimed_fits : (e : Encoding) (table : Table) (c : Claimed) (g : LaunchGraph) → c.graph ≡ Some g → IsSound e table c
-    → FitsAsClaimed g table c.claim
+    → FitsAsClaimed g table (allocation_of e) c.claim
 claimed_fits e table c g is sound =
     let same : sound.graph ≡ g = (let e : Some sound.graph ≡ Some g = sym sound.printed ∙ is in cc) in
-    subst (λ (x : LaunchGraph). FitsAsClaimed x table c.claim) same
-    (fits_where table sound.graph sound.clauses_for c.claim sound.claim)
+    subst (λ (x : LaunchGraph). FitsAsClaimed x table (allocation_of e) c.claim) same
+    (fits_where table (allocation_of e) sound.graph sound.clauses_for c.claim sound.claim)
 
 -- the claim of a goal with a graph is within bounds
 pub claim_small : (version : ℕ) (c : Claimed) (g : LaunchGraph) → IsClaimed version c → c.graph ≡ Some g

@@ -1,3 +1,4 @@
+mod Allocated
 mod Behind
 mod Built
 mod Checked

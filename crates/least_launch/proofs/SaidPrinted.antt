@@ -10,7 +10,6 @@ use Rattle.answer_texts.specs.declared.answers.Claim.TheVariants as claims
 use Rattle.answer_texts.specs.declared.answers.Claimed.{Claimed}
 use Rattle.cnf_core.specs.declared.line.Line.{Line as Row}
 use Rattle.cnf_core.specs.declared.line.Lines.{Lines}
-use Rattle.cycle_encoding.specs.declared.encodings.Encoding.TheVariants.{Pinned}
 use Rattle.denali_run.specs.ClaimedResults.{claimed, goals_claimed}
 use Rattle.denali_run.specs.MatchedGoals.{IsSettings}
 use Rattle.denali_run.specs.Right.{Right}
@@ -27,6 +26,7 @@ use Rattle.machine_table.specs.Tables.{IsTable}
 use Rattle.machine_table.specs.declared.tables.Table.{Table}
 use Rattle.refutation_check.specs.LineWords.{IsReadableLine, line_words}
 use Rattle.schedule_meaning.specs.Fits.{Fits}
+use Rattle.schedule_meaning.specs.declared.schedules.Allocation.{Allocation}
 use Rattle.schedule_meaning.specs.declared.schedules.Launch.{Launch}
 use Rattle.text_core.specs.LineTexts.{CanBeLine, lines_text, placed_lines, words_of_lines}
 use Rattle.text_core.specs.Lines.{AreLines, Line}
@@ -44,41 +44,43 @@ use Rattle.least_launch.proofs.TailLinesRead.{IsPrintableFor, IsPrintableOf, IsP
 -- a schedule that fits in k cycles has at most 8 launches in each
 abbrev pub SchedulesAreSmall : Type 0
 SchedulesAreSmall =
-    (g : LaunchGraph) (table : Table) (k : ℕ) (ls : List Launch) → IsTable table → Fits g table k ls → length ls ≤ 8 * k
+    (g : LaunchGraph) (table : Table) (al : Allocation) (k : ℕ) (ls : List Launch) → IsTable table
+    → Fits g table al k ls → length ls ≤ 8 * k
 
 module _ (accepted : AcceptedAreReadable) where
-  printable_proof : (g : LaunchGraph) (table : Table) (k conflicts count : ℕ) (proof : Proof) → count < 2 ^ 31
-      → conflicts ≤ 1000000 → IsProof g table k conflicts count proof → IsPrintableTail (said_by count proof)
-  printable_proof g table k conflicts count proofs.None small budget is =
+  printable_proof : (g : LaunchGraph) (table : Table) (al : Allocation) (k conflicts count : ℕ) (proof : Proof)
+      → count < 2 ^ 31 → conflicts ≤ 1000000 → IsProof g table al k conflicts count proof
+      → IsPrintableTail (said_by count proof)
+  printable_proof g table al k conflicts count proofs.None small budget is =
       (small, (λ e. refl), record { few = omega arith; each = All-nil IsReadableLine })
-  printable_proof g table k conflicts count (proofs.Refuted lines) small budget is =
+  printable_proof g table al k conflicts count (proofs.Refuted lines) small budget is =
       let some = is.1.some in
       let short = is.1.holds.1 in
       let read = readable accepted is.1.formula lines.lines is.1.holds.0 is.1.holds.2.accepted
       (omega (arith, short, budget)) in
       (small, (λ e. absurd (omega (arith, e, some))), record { few = read.1; each = read.0 })
-  printable_proof g table k conflicts count (proofs.Spent lines) small budget is =
+  printable_proof g table al k conflicts count (proofs.Spent lines) small budget is =
       let many = is.holds.1.count in
       let read = readable accepted is.formula lines.lines is.holds.0 is.holds.1.accepted
       (omega (arith, many, budget)) in
       (is.some, small, record { few = read.1; each = read.0 })
-  printable_proof g table k conflicts count (proofs.Size vars clauses) small budget is =
+  printable_proof g table al k conflicts count (proofs.Size vars clauses) small budget is =
       (is.some, small, is.holds.1, is.holds.2)
 
   module _ (schedules : SchedulesAreSmall) (input : InputTree) (s : Settings) (is_table : IsTable input.table)
       (set : IsSettings s) where
-    printable_found : (goal : GoalTree) (f : Found) (tail : Tail) → Right Pinned input goal s (answered.Scheduled f)
-        → IsSaidOf input.table s.conflicts f tail → IsPrintableTail tail
+    printable_found : (goal : GoalTree) (f : Found) (tail : Tail) → Right input goal s (answered.Scheduled f)
+        → IsSaidOf input.table s.allocation s.conflicts f tail → IsPrintableTail tail
     printable_found goal f tail right is =
-        let few = schedules f.matched.graph input.table f.k f.schedule.launches is_table right.2.fits in
+        let few = schedules f.matched.graph input.table s.allocation f.k f.schedule.launches is_table right.2.fits in
         let low = right.1 in
         let cycles = set.cycles in
         subst IsPrintableTail (sym is.said)
-        (printable_proof f.matched.graph input.table f.k s.conflicts (length f.schedule.launches) is.proof
+        (printable_proof f.matched.graph input.table s.allocation f.k s.conflicts (length f.schedule.launches) is.proof
         (omega (arith, few, low, cycles)) set.conflicts.1 is.is_proof)
 
-    printable_goal : (goal : GoalTree) (a : Answered) (tail : Option Tail) → Right Pinned input goal s a
-        → IsTailOf input.table s.conflicts a tail → IsPrintableOf (claimed goal.name a) tail
+    printable_goal : (goal : GoalTree) (a : Answered) (tail : Option Tail) → Right input goal s a
+        → IsTailOf input.table s.allocation s.conflicts a tail → IsPrintableOf (claimed goal.name a) tail
     printable_goal goal (answered.Scheduled f) None right is = absurd is
     printable_goal goal (answered.Scheduled f) (Some tail) right is = printable_found goal f tail right is
     printable_goal goal (answered.Nowhere m) None right is = tt
@@ -91,8 +93,8 @@ module _ (accepted : AcceptedAreReadable) where
     printable_goal goal (answered.NoWorld class a b) (Some tail) right is = absurd is
 
     pub all_printable : (goals : List GoalTree) (results : List Answered) (said : List (Option Tail))
-        → AllZip (λ goal a. Right Pinned input goal s a) goals results
-        → AllZip (IsTailOf input.table s.conflicts) results said
+        → AllZip (λ goal a. Right input goal s a) goals results
+        → AllZip (IsTailOf input.table s.allocation s.conflicts) results said
         → AllZip IsPrintableOf (goals_claimed goals results) said
     all_printable [] [] [] right each = tt
     all_printable [] [] (t ∷ said) right each = absurd each

@@ -16,12 +16,13 @@ use Rattle.cycle_encoding.specs.Faults.{EncodeFaultIs}
 use Rattle.cycle_encoding.specs.CycleFormula.{Scope}
 use Rattle.cycle_encoding.specs.CycleFormula.{listed_in}
 use Rattle.cycle_encoding.specs.Plans.{IsTooLarge, PassesLimit}
-use Rattle.cycle_encoding.specs.declared.encodings.Encoding.TheVariants.{Pinned}
 use Rattle.cycle_encoding.specs.declared.plans.EncodeFault.{EncodeFault}
 use Rattle.cycle_encoding.specs.declared.plans.EncodeFault.TheVariants as encode
+use Rattle.denali_run.specs.Encodings.{encoding_for}
 use Rattle.graph_meaning.specs.declared.graphs.LaunchGraph.{LaunchGraph}
 use Rattle.machine_table.specs.declared.tables.Table.{Table}
 use Rattle.schedule_meaning.specs.Fits.{Fits}
+use Rattle.schedule_meaning.specs.declared.schedules.Allocation.{Allocation}
 use Rattle.schedule_meaning.specs.declared.schedules.Launch.{Launch}
 use Rattle.least_launch.specs.FewerLaunches.{IsFewerOf, fewer_in}
 use Rattle.least_launch.specs.Fewest.{IsProof, NoneHasFewer, OfOneFewer}
@@ -31,24 +32,25 @@ use Rattle.least_launch.specs.declared.results.Proof.TheVariants as proofs
 use Rattle.least_launch.specs.declared.searching.Step.{Step}
 use Rattle.least_launch.specs.declared.searching.Step.TheVariants as steps
 
-module _ (g : LaunchGraph) (table : Table) (k n conflicts : ℕ) (s : Scope) (scope : IsScope Pinned g table s)
-    (few : k ≤ most_cycles) where
+module _ (g : LaunchGraph) (table : Table) (a : Allocation) (k n conflicts : ℕ) (s : Scope)
+    (scope : IsScope (encoding_for a) g table s) (few : k ≤ most_cycles) where
   -- the clauses over what the scope gives variables are those for one launch fewer than n + 1
   abbrev clauses_for : Formula
   clauses_for = fewer_in s g table k n
 
-  pub of_one_fewer : (P : Formula → Type 0) → P (fewer_in s g table k n) → OfOneFewer g table k (n + 1) P
+  pub of_one_fewer : (P : Formula → Type 0) → P (fewer_in s g table k n) → OfOneFewer g table a k (n + 1) P
   of_one_fewer P holds = record {
     some = omega arith;
     formula = clauses_for;
-    fewer = subst (λ m. IsFewerOf g table k m (fewer_in s g table k n)) (let e : n ≡ n + 1 - 1 = omega arith in e)
+    fewer = subst (λ m. IsFewerOf (encoding_for a) g table k m (fewer_in s g table k n))
+        (let e : n ≡ n + 1 - 1 = omega arith in e)
         (record { lists = listed_in g table k s; listed = scope.lists k few; is = refl });
     holds = holds;
   }
 
   pub large_step : (fault : EncodeFault) (step : Step) → EncodeFaultIs (fewer_in s g table k n) fault
       → IsLargeStep fault step
-      → IsStep g table k conflicts n step
+      → IsStep g table a k conflicts n step
   large_step (encode.Size v c) (steps.Ended (proofs.Size vars clauses)) is by =
       of_one_fewer (λ f. PassesLimit f vars clauses × IsWord vars × IsWord clauses)
       ((is.0, by.0 ∙ is.1, by.1 ∙ is.2), by.2, by.3)
@@ -60,15 +62,15 @@ module _ (g : LaunchGraph) (table : Table) (k n conflicts : ℕ) (s : Scope) (sc
 
   pub large_steps : {E : Type 0} (fault : EncodeFault) (r : Result Step E)
       → EncodeFaultIs (fewer_in s g table k n) fault
-      → IfOk r (IsLargeStep fault) → IfOk r (IsStep g table k conflicts n)
+      → IfOk r (IsLargeStep fault) → IfOk r (IsStep g table a k conflicts n)
   large_steps fault (Ok step) is by = large_step fault step is by
   large_steps fault (Err e) is by = tt
 
   -- no schedule with at most n launches fits where the clauses have no solution
   pub none_fewer : (f : Formula) → f ≡ fewer_in s g table k n → HaveNoSolution f.clauses
-      → ((ls : List Launch) → Fits g table k ls → length ls ≤ n
+      → ((ls : List Launch) → Fits g table a k ls → length ls ≤ n
       → (v : ℕ → Bool) × Satisfies v (fewer_in s g table k n).clauses)
-      → NoneHasFewer g table k (n + 1)
+      → NoneHasFewer g table a k (n + 1)
   none_fewer f is none each ls fits =
       elim (cases_lt n (length ls)) [
         | inl more ↦ omega (arith, more)
@@ -78,8 +80,8 @@ module _ (g : LaunchGraph) (table : Table) (k n conflicts : ℕ) (s : Scope) (sc
       ]
 
   pub refuted_step : (f : Formula) (lines : Lines) → f ≡ fewer_in s g table k n → ¬ IsTooLarge (fewer_in s g table k n)
-      → length lines.lines ≤ conflicts → Refutes f lines.lines → NoneHasFewer g table k (n + 1)
-      → IsProof g table k conflicts (n + 1) (proofs.Refuted lines)
+      → length lines.lines ≤ conflicts → Refutes f lines.lines → NoneHasFewer g table a k (n + 1)
+      → IsProof g table a k conflicts (n + 1) (proofs.Refuted lines)
   refuted_step f lines is within short refutes none = (
     none,
     of_one_fewer (λ f. (¬ IsTooLarge f) × (length lines.lines ≤ conflicts) × Refutes f lines.lines)
@@ -87,19 +89,20 @@ module _ (g : LaunchGraph) (table : Table) (k n conflicts : ℕ) (s : Scope) (sc
   )
 
   pub spent_step : (f : Formula) (lines : Lines) → f ≡ fewer_in s g table k n → ¬ IsTooLarge (fewer_in s g table k n)
-      → IsSpent f conflicts lines.lines → IsProof g table k conflicts (n + 1) (proofs.Spent lines)
+      → IsSpent f conflicts lines.lines → IsProof g table a k conflicts (n + 1) (proofs.Spent lines)
   spent_step f lines is within spent =
       of_one_fewer (λ f. (¬ IsTooLarge f) × IsSpent f conflicts lines.lines)
       (within, subst (λ x. IsSpent x conflicts lines.lines) is spent)
 
 -- what stands beside a schedule with so many launches
-pub proof_at : (g : LaunchGraph) (table : Table) (k conflicts n count : ℕ) (proof : Proof) → n + 1 ≡ count
-    → IsProof g table k conflicts (n + 1) proof → IsProof g table k conflicts count proof
-proof_at g table k conflicts n count proof e is = subst (λ m. IsProof g table k conflicts m proof) e is
+pub proof_at : (g : LaunchGraph) (table : Table) (a : Allocation) (k conflicts n count : ℕ) (proof : Proof)
+    → n + 1 ≡ count → IsProof g table a k conflicts (n + 1) proof → IsProof g table a k conflicts count proof
+proof_at g table a k conflicts n count proof e is = subst (λ m. IsProof g table a k conflicts m proof) e is
 
 -- a schedule that has the launches which satisfying values show
-pub fewer_step : (g : LaunchGraph) (table : Table) (k n : ℕ) (ls ms : List Launch) → IsPermutation ls ms
-    → ((ls ms : List Launch) → IsPermutation ls ms → Fits g table k ls → Fits g table k ms) → Fits g table k ls
-    → length ls ≤ n → Fits g table k ms × (length ms ≤ n)
-fewer_step g table k n ls ms same any_order fits few =
+pub fewer_step : (g : LaunchGraph) (table : Table) (a : Allocation) (k n : ℕ) (ls ms : List Launch)
+    → IsPermutation ls ms
+    → ((ls ms : List Launch) → IsPermutation ls ms → Fits g table a k ls → Fits g table a k ms) → Fits g table a k ls
+    → length ls ≤ n → Fits g table a k ms × (length ms ≤ n)
+fewer_step g table a k n ls ms same any_order fits few =
     (any_order ls ms same fits, (let e = length_permutation ls ms same in omega (arith, few, e)))

@@ -3,7 +3,6 @@ use Rattle.std.proofs.Common.{◌≡◌, ℕ, ◌<◌, List, [], ◌∷◌, ◌+
 use Rattle.std.specs.Prelude.{slice_get}
 use Rattle.std.specs.List.{AllZip}
 use Rattle.std.proofs.lemmas.Option.{slice_get_cases}
-use Rattle.cycle_encoding.specs.declared.encodings.Encoding.TheVariants.{Pinned}
 use Rattle.denali_run.specs.MatchedGoals.{IsSettings}
 use Rattle.denali_run.specs.Right.{Right}
 use Rattle.denali_run.specs.declared.results.Answered.{Answered}
@@ -17,39 +16,40 @@ use Rattle.least_launch.specs.SolvedGoals.{CanLessen, IsLessened, IsWithFewest, 
 use Rattle.least_launch.specs.declared.tails.Tail.{Tail}
 
 module _ (input : InputTree) (goal : GoalTree) (s : Settings) where
-  can_lessen : IsSettings s → (f : Found) → Right Pinned input goal s (answered.Scheduled f) → CanLessen input.table f
+  can_lessen : IsSettings s → (f : Found) → Right input goal s (answered.Scheduled f)
+      → CanLessen input.table s.allocation f
   can_lessen is f right = record {
     graph = right.0.graph;
     few = (let most = right.1 in let cycles = is.cycles in omega (arith, most, cycles));
     fits = right.2.fits;
   }
 
-  pub may_lessen : IsSettings s → (a : Answered) → Right Pinned input goal s a → MayLessen input.table a
+  pub may_lessen : IsSettings s → (a : Answered) → Right input goal s a → MayLessen input.table s.allocation a
   may_lessen is (answered.Scheduled f) right = can_lessen is f right
   may_lessen is (answered.Nowhere m) right = tt
   may_lessen is (answered.SpentConflicts t) right = tt
   may_lessen is (answered.SpentSize l) right = tt
   may_lessen is (answered.NoWorld class a b) right = tt
 
-  lessened_right : (old new : Found) (tail : Tail) → Right Pinned input goal s (answered.Scheduled old)
-      → IsLessened input.table s.conflicts old new tail → Right Pinned input goal s (answered.Scheduled new)
+  lessened_right : (old new : Found) (tail : Tail) → Right input goal s (answered.Scheduled old)
+      → IsLessened input.table s.allocation s.conflicts old new tail → Right input goal s (answered.Scheduled new)
   lessened_right old new tail right h =
-      subst (λ (f : Found). Right Pinned input goal s (answered.Scheduled f)) (sym h.is)
+      subst (λ (f : Found). Right input goal s (answered.Scheduled f)) (sym h.is)
       (found_right input goal s input.table
       (record old { schedule = new.schedule; listing = new.listing; words = new.words }) right.3.clauses_for refl
       right.0 right.1
       right.3.formulas (right.3.holds.0, h.fits) h.listing h.words h.low h.keeps right.3.holds.1)
 
   abbrev IsBoth : Answered → Option Tail → Type 0
-  IsBoth a tail = Right Pinned input goal s a × IsTailOf input.table s.conflicts a tail
+  IsBoth a tail = Right input goal s a × IsTailOf input.table s.allocation s.conflicts a tail
 
   -- every other result stays
-  stays : (old new : Answered) → Right Pinned input goal s old → IsTailOf input.table s.conflicts old None → new ≡ old
-      → IsBoth new None
+  stays : (old new : Answered) → Right input goal s old → IsTailOf input.table s.allocation s.conflicts old None
+      → new ≡ old → IsBoth new None
   stays old new right none is = subst (λ (a : Answered). IsBoth a None) (sym is) (right, none)
 
-  pub with_right : (old new : Answered) (tail : Option Tail) → Right Pinned input goal s old
-      → IsWithFewest input.table s.conflicts old new tail → IsBoth new tail
+  pub with_right : (old new : Answered) (tail : Option Tail) → Right input goal s old
+      → IsWithFewest input.table s.allocation s.conflicts old new tail → IsBoth new tail
   with_right (answered.Scheduled old) (answered.Scheduled new) (Some tail) right h =
       (lessened_right old new tail right h, h.said)
   with_right (answered.Scheduled old) (answered.Scheduled new) None right h = absurd h

@@ -1,5 +1,5 @@
--- The clauses of schedules with few launches: those of the encoding with pins, and behind them a counter over the
--- launches. Source: this project; the counter is that of the clauses before it.
+-- The clauses of schedules with few launches: those of an encoding, and behind them a counter over the launches.
+-- Source: this project; the counter is that of the clauses before it.
 use Rattle.std.specs.Prelude.{◌≡◌, ℕ, ◌+◌, List, ◌++◌, length}
 use Rattle.cnf_core.specs.Counter.{at_most_clauses, at_most_vars}
 use Rattle.cnf_core.specs.Formula.{Formula}
@@ -9,7 +9,7 @@ use Rattle.cycle_encoding.specs.Encodings.{AreListed}
 use Rattle.cycle_encoding.specs.Families.{any}
 use Rattle.cycle_encoding.specs.CycleFormula.{listed_in}
 use Rattle.cycle_encoding.specs.Shapes.{numbered, vars_of}
-use Rattle.cycle_encoding.specs.declared.encodings.Encoding.TheVariants.{Pinned}
+use Rattle.cycle_encoding.specs.declared.encodings.Encoding.{Encoding}
 use Rattle.graph_meaning.specs.declared.graphs.LaunchGraph.{LaunchGraph}
 use Rattle.machine_table.specs.declared.tables.Table.{Table}
 use Rattle.order_encoding.specs.WholeFormula.{whole_formula}
@@ -30,10 +30,10 @@ launch_literals launches = vars_of any (numbered 0 launches)
 abbrev pub fewer_formula : LaunchGraph → Table → ℕ → Listed → ℕ → Formula
 fewer_formula g table k l n = with_at_most n (launch_literals l.launches) (whole_formula g table k l)
 
--- these are the clauses of schedules with at most n launches in k cycles, over the lists of the encoding with pins
-pub record IsFewerOf (g : LaunchGraph) (table : Table) (k n : ℕ) (f : Formula) : Type 0 where
+-- these are the clauses of schedules with at most n launches in k cycles, over the lists of the encoding
+pub record IsFewerOf (e : Encoding) (g : LaunchGraph) (table : Table) (k n : ℕ) (f : Formula) : Type 0 where
   pub lists : Listed
-  pub listed : AreListed Pinned g table k lists
+  pub listed : AreListed e g table k lists
   pub is : f ≡ fewer_formula g table k lists n
 
 -- these clauses over what a scope gives variables

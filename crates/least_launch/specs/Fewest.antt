@@ -4,10 +4,12 @@ use Rattle.cnf_core.specs.Formula.{Formula}
 use Rattle.cnf_core.specs.Outcome.{IsSpent}
 use Rattle.cnf_core.specs.Refutation.{Refutes}
 use Rattle.cycle_encoding.specs.Plans.{IsTooLarge, PassesLimit}
+use Rattle.denali_run.specs.Encodings.{encoding_for}
 use Rattle.graph_meaning.specs.declared.graphs.LaunchGraph.{LaunchGraph}
 use Rattle.machine_table.specs.declared.tables.Table.{Table}
 use Rattle.register_assign.specs.Assigned.{IsTheListing}
 use Rattle.schedule_meaning.specs.Fits.{Fits}
+use Rattle.schedule_meaning.specs.declared.schedules.Allocation.{Allocation}
 use Rattle.schedule_meaning.specs.declared.schedules.Launch.{Launch}
 use Rattle.word_ops.specs.Words.{IsWord}
 use Rattle.least_launch.specs.FewerLaunches.{IsFewerOf}
@@ -15,16 +17,18 @@ use Rattle.least_launch.specs.declared.results.Least.{Least}
 use Rattle.least_launch.specs.declared.results.Proof.{Proof}
 use Rattle.least_launch.specs.declared.results.Proof.TheVariants as proofs
 
-module _ (g : LaunchGraph) (table : Table) (k : ℕ) where
+-- schedules whose launches keep their registers as long as the allocation says
+module _ (g : LaunchGraph) (table : Table) (a : Allocation) (k : ℕ) where
   -- no schedule that fits in k cycles has fewer launches than these
   abbrev pub NoneHasFewer : ℕ → Type 0
-  NoneHasFewer count = (ls : List Launch) → Fits g table k ls → count ≤ length ls
+  NoneHasFewer count = (ls : List Launch) → Fits g table a k ls → count ≤ length ls
 
-  -- There is some launch, and of the clauses for one launch fewer this holds.
+  -- There is some launch, and this holds of the clauses for one launch fewer: those of the encoding by which schedules
+  -- with this allocation, which may have pins, are asked for.
   pub record OfOneFewer (count : ℕ) (Holds : Formula → Type 0) : Type 0 where
     pub some : 1 ≤ count
     pub formula : Formula
-    pub fewer : IsFewerOf g table k (count - 1) formula
+    pub fewer : IsFewerOf (encoding_for a) g table k (count - 1) formula
     pub holds : Holds formula
 
   -- What stands beside a schedule with so many launches: nothing exactly where it has none. Otherwise lines that refute
@@ -43,7 +47,7 @@ module _ (g : LaunchGraph) (table : Table) (k : ℕ) where
   -- The schedule fits and has at most as many launches as the given one; this is its listing, and what stands beside
   -- it.
   pub record IsFewest (conflicts : ℕ) (given : List Launch) (least : Least) : Type 0 where
-    pub fits : Fits g table k least.schedule.launches
+    pub fits : Fits g table a k least.schedule.launches
     pub no_more : length least.schedule.launches ≤ length given
-    pub listing : IsTheListing g table least.schedule.launches least.listing.items least.listing.wheres
+    pub listing : IsTheListing g table a least.schedule.launches least.listing.items least.listing.wheres
     pub proof : IsProof conflicts (length least.schedule.launches) least.proof

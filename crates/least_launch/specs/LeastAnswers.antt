@@ -2,7 +2,6 @@
 -- Source: this project.
 use Rattle.std.specs.Prelude.{◌≡◌, ℕ, ◌≤◌, ◌^◌, Bool, true, false, List, [], ◌++◌, length, Option, Some, None, if◌then◌else◌}
 use Rattle.std.specs.List.{AllZip, list_any}
-use Rattle.cycle_encoding.specs.declared.encodings.Encoding.TheVariants.{Pinned}
 use Rattle.denali_run.specs.ClaimedResults.{answer_text, answer_to}
 use Rattle.denali_run.specs.Right.{AreRightResults}
 use Rattle.denali_run.specs.TextAnswers.{greatest_status}
@@ -16,6 +15,7 @@ use Rattle.reports.specs.declared.statuses.Status.TheVariants as status
 use Rattle.goal_meaning.specs.Views.{InputTree}
 use Rattle.goal_reader.specs.Grammar.{Reads}
 use Rattle.machine_table.specs.declared.tables.Table.{Table}
+use Rattle.schedule_meaning.specs.declared.schedules.Allocation.{Allocation}
 use Rattle.text_core.specs.LineTexts.{lines_text}
 use Rattle.least_launch.specs.Fewest.{IsProof}
 use Rattle.least_launch.specs.TailLines.{tail_lines}
@@ -33,17 +33,17 @@ said_by launches (proofs.Spent lines) = tails.Spent launches lines
 said_by launches (proofs.Size vars clauses) = tails.Size launches vars clauses
 
 -- what is said of the schedule of a result, with what stands beside it
-pub record IsSaidOf (table : Table) (conflicts : ℕ) (f : Found) (tail : Tail) : Type 0 where
+pub record IsSaidOf (table : Table) (a : Allocation) (conflicts : ℕ) (f : Found) (tail : Tail) : Type 0 where
   pub proof : Proof
-  pub is_proof : IsProof f.matched.graph table f.k conflicts (length f.schedule.launches) proof
+  pub is_proof : IsProof f.matched.graph table a f.k conflicts (length f.schedule.launches) proof
   pub said : tail ≡ said_by (length f.schedule.launches) proof
 
 -- of a result with a schedule this is said, and of another nothing
-abbrev pub IsTailOf : Table → ℕ → Answered → Option Tail → Type 0
-IsTailOf table conflicts (Scheduled f) (Some tail) = IsSaidOf table conflicts f tail
-IsTailOf table conflicts (Scheduled f) None = ⊥
-IsTailOf table conflicts answered (Some tail) = ⊥
-IsTailOf table conflicts answered None = Unit {0}
+abbrev pub IsTailOf : Table → Allocation → ℕ → Answered → Option Tail → Type 0
+IsTailOf table a conflicts (Scheduled f) (Some tail) = IsSaidOf table a conflicts f tail
+IsTailOf table a conflicts (Scheduled f) None = ⊥
+IsTailOf table a conflicts answered (Some tail) = ⊥
+IsTailOf table a conflicts answered None = Unit {0}
 
 -- it isn't known whether a schedule has fewer launches
 abbrev pub is_most : Tail → Bool
@@ -72,9 +72,9 @@ pub record AnswersLeast (s : Settings) (text bytes : List ℕ) (ending : Status)
   pub input : InputTree
   pub reads : Reads text input
   pub results : List Answered
-  pub right : AreRightResults Pinned input s results
+  pub right : AreRightResults input s results
   pub said : List (Option Tail)
-  pub each : AllZip (IsTailOf input.table s.conflicts) results said
-  pub bytes_are : bytes ≡ answer_text Pinned s.library input results ++ lines_text (tail_lines said)
-  pub read_back : length text ≤ 2 ^ 20 → ReadsTailed bytes (answer_to Pinned s.library input results) said
+  pub each : AllZip (IsTailOf input.table s.allocation s.conflicts) results said
+  pub bytes_are : bytes ≡ answer_text s input results ++ lines_text (tail_lines said)
+  pub read_back : length text ≤ 2 ^ 20 → ReadsTailed bytes (answer_to s input results) said
   pub status_is : ending ≡ least_status results said

@@ -7,10 +7,11 @@ ghost use Rattle.answer_check.specs.declared.verdicts.Verdict.TheVariants.{Holds
 ghost use Rattle.answer_texts.specs.WellFormed.{FitsClaim, IsClaimed};
 ghost use Rattle.answer_texts.specs.declared.answers.Claimed.{Claimed as ClaimedOf};
 ghost use Rattle.cnf_core.specs.Formula.{Formula};
+ghost use Rattle.cycle_encoding.specs.Allocations.{allocation_of};
+ghost use Rattle.cycle_encoding.specs.CycleFormula.{allocation_in};
 ghost use Rattle.cycle_encoding.specs.Encodings.{IsScope};
 ghost use Rattle.cycle_encoding.specs.Plans.{IsTooLarge, PassesLimit};
 ghost use Rattle.cycle_encoding.specs.declared.encodings.Encoding.{Encoding as EncodingOf};
-ghost use Rattle.cycle_encoding.specs.declared.encodings.Encoding.TheVariants.{Pinned};
 ghost use Rattle.graph_meaning.specs.WellFormed.{IsLaunchGraph};
 ghost use Rattle.machine_table.specs.Tables.{IsTable};
 ghost use Rattle.least_launch.specs.FewerLaunches.{fewer_in};
@@ -25,11 +26,12 @@ use crate::verdicts::TailVerdict;
 use answer_check::{Verdict, check_goal};
 use answer_texts::{Claim, Claimed};
 use cycle_encoding::{Encoding, Facts, Scope, Sizes};
+use denali_run::encoding_for;
 use graph_meaning::LaunchGraph;
 use items::NoMemory;
 use machine_table::Table;
 use refutation_check::Rejected;
-use schedule_meaning::fitting_schedules_are_small;
+use schedule_meaning::{Allocation, fitting_schedules_are_small};
 use std::alloc::Global;
 
 /// Of how many launches something is said.
@@ -99,28 +101,29 @@ fn are_right(sizes: Sizes, tail: &Tail) -> bool
 
 /// The true counts of the clauses for at most `n` launches, if they are wrong for what is said.
 fn wrong_size(
+    alloc: Global,
     facts: &Facts,
     table: &Table,
     scope: &Scope,
     k: u32,
     n: u32,
     tail: &Tail,
-) -> Option<Sizes>
+) -> Result<Option<Sizes>, NoMemory>
     requires cycles { k ≤ most_cycles }
     requires launches { n ≤ most_launches }
     requires table { IsTable table.now }
     requires graph { IsLaunchGraph facts.now }
-    ensures { MatchOption result
+    ensures { IfOk result (λ found. MatchOption found
         (HasTrueSize (fewer_in scope.now facts.now table.now k n) tail.now)
         (λ s. (¬ HasTrueSize (fewer_in scope.now facts.now table.now k n) tail.now)
         × (s.vars ≡ (fewer_in scope.now facts.now table.now k n).vars)
-        × (s.clauses ≡ length (fewer_in scope.now facts.now table.now k n).clauses)) }
+        × (s.clauses ≡ length (fewer_in scope.now facts.now table.now k n).clauses))) }
 {
-    let sizes = count_fewer(facts, table, scope, k, n);
+    let sizes = count_fewer(alloc, facts, table, scope, k, n)?;
     if are_right(sizes, tail) {
-        None
+        Ok(None)
     } else {
-        Some(sizes)
+        Ok(Some(sizes))
     }
 }
 
@@ -138,13 +141,14 @@ fn refused(
     requires launches { n ≤ most_launches }
     requires table { IsTable table.now }
     requires graph { IsLaunchGraph facts.now }
-    requires scope { IsScope Pinned facts.now table.now scope.now }
+    requires scope { IsScope scope.now.encoding facts.now table.now scope.now }
     requires size { HasTrueSize (fewer_in scope.now facts.now table.now k n) tail.now }
     requires few { HasFewLines tail.now }
     ensures exact { IfOk result (λ found. MatchOption found
         (HasTrueLines (fewer_in scope.now facts.now table.now k n) tail.now)
         (λ e. HasRefusedLine (fewer_in scope.now facts.now table.now k n) tail.now e.line e.why)) }
-    ensures none_fits { IfOk result (λ found. IfNone found (TellsNoneFewer facts.now table.now k n tail.now)) }
+    ensures none_fits { IfOk result
+        (λ found. IfNone found (TellsNoneFewer facts.now table.now (allocation_in scope.now) k n tail.now)) }
 {
     match tail {
         Tail::Least { lines, .. } => refused_line(alloc, facts, table, scope, k, n, lines),
@@ -167,13 +171,13 @@ fn check_clauses(
     requires launches { n ≤ most_launches }
     requires table { IsTable table.now }
     requires graph { IsLaunchGraph facts.now }
-    requires scope { IsScope Pinned facts.now table.now scope.now }
+    requires scope { IsScope scope.now.encoding facts.now table.now scope.now }
     requires few { HasFewLines tail.now }
     requires said { specs.launches_of tail.now ≡ n + 1 }
     ensures outcome { IfOk result (λ v. IsByClauses tail.now v (fewer_in scope.now facts.now table.now k n)) }
-    ensures sound { IfOk result (SaysTrue facts.now table.now k) }
+    ensures sound { IfOk result (SaysTrue facts.now table.now (allocation_in scope.now) k) }
 {
-    if let Some(sizes) = wrong_size(facts, table, scope, k, n, tail) {
+    if let Some(sizes) = wrong_size(alloc, facts, table, scope, k, n, tail)? {
         return Ok(TailVerdict::Size {
             vars: sizes.vars,
             clauses: sizes.clauses,
@@ -188,10 +192,12 @@ fn check_clauses(
     Ok(holds(tail))
 }
 
-/// Tests what is said of a schedule of the graph that fits in k cycles and has so many launches.
+/// Tests what is said of a schedule of the graph that fits in k cycles and has so many launches, by the clauses for its
+/// allocation.
 fn check_tail(
     alloc: Global,
     table: &Table,
+    allocation: Allocation,
     graph: &LaunchGraph,
     k: u32,
     count: u32,
@@ -202,8 +208,8 @@ fn check_tail(
     requires table { IsTable table.now }
     requires graph { IsLaunchGraph graph.now }
     requires few { HasFewLines tail.now }
-    ensures outcome { IfOk result (IsTailOutcome graph.now table.now k count tail.now) }
-    ensures sound { IfOk result (SaysTrue graph.now table.now k) }
+    ensures outcome { IfOk result (IsTailOutcome graph.now table.now allocation k count tail.now) }
+    ensures sound { IfOk result (SaysTrue graph.now table.now allocation k) }
 {
     let launches = launches_of(tail);
     if count != launches {
@@ -213,7 +219,7 @@ fn check_tail(
         return Ok(holds(tail));
     }
     let facts = Facts::new(alloc, graph)?;
-    let scope = Scope::of(alloc, Encoding::Pinned, &facts, table)?;
+    let scope = Scope::of(alloc, encoding_for(allocation), &facts, table)?;
     check_clauses(alloc, &facts, table, &scope, k, count - 1, tail)
 }
 
@@ -221,6 +227,7 @@ fn check_tail(
 fn check_claimed(
     alloc: Global,
     table: &Table,
+    allocation: Allocation,
     graph: &LaunchGraph,
     claim: &Claim,
     tail: &Tail,
@@ -229,15 +236,16 @@ fn check_claimed(
     requires graph { IsLaunchGraph graph.now }
     requires few { HasFewLines tail.now }
     requires small { FitsClaim claim.now }
-    requires fits { FitsAsClaimed graph.now table.now claim.now }
-    ensures { IfOk result (λ v. (e : EncodingOf) (c : ClaimedOf) → c.graph ≡ Some graph.now → c.claim ≡ claim.now
+    requires fits { FitsAsClaimed graph.now table.now allocation claim.now }
+    ensures { IfOk result (λ v. (e : EncodingOf) (c : ClaimedOf) → allocation_of e ≡ allocation
+        → c.graph ≡ Some graph.now → c.claim ≡ claim.now
         → IsVerdict e table.now c Holds → IsSound e table.now c → IsTailJudged e table.now c (Some tail.now) v) }
 {
     fitting_schedules_are_small();
     match claim {
         Claim::Scheduled { k, schedule, .. } => {
             let count = schedule.launches.len() as u32;
-            check_tail(alloc, table, graph, *k, count, tail)
+            check_tail(alloc, table, allocation, graph, *k, count, tail)
         }
         Claim::NoWorld { .. } => Ok(TailVerdict::Plain(Verdict::Holds)),
         Claim::Missing { .. } => Ok(TailVerdict::Plain(Verdict::Holds)),
@@ -250,6 +258,7 @@ fn check_claimed(
 fn check_held(
     alloc: Global,
     table: &Table,
+    allocation: Allocation,
     goal: &Claimed,
     said: &Option<Tail>,
 ) -> Result<TailVerdict, NoMemory>
@@ -257,15 +266,16 @@ fn check_held(
     requires goal { (version : ℕ) × IsClaimed version goal.now }
     requires said { ClaimsSchedule goal.now.claim → IsTrue (is_some said.now) }
     requires few { IfSome said.now HasFewLines }
-    requires sound { (e : EncodingOf) × IsSound e table.now goal.now }
-    ensures { IfOk result (λ v. (e : EncodingOf) → IsVerdict e table.now goal.now Holds → IsSound e table.now goal.now
+    requires sound { (e : EncodingOf) × (allocation_of e ≡ allocation) × IsSound e table.now goal.now }
+    ensures { IfOk result (λ v. (e : EncodingOf) → allocation_of e ≡ allocation
+        → IsVerdict e table.now goal.now Holds → IsSound e table.now goal.now
         → IsTailJudged e table.now goal.now said.now v) }
 {
     match said {
         None => Ok(TailVerdict::Plain(Verdict::Holds)),
         Some(tail) => match &goal.graph {
             None => Ok(TailVerdict::Plain(Verdict::Holds)),
-            Some(graph) => check_claimed(alloc, table, graph, &goal.claim, tail),
+            Some(graph) => check_claimed(alloc, table, allocation, graph, &goal.claim, tail),
         },
     }
 }
@@ -287,7 +297,7 @@ pub fn check_said(
 {
     let verdict = check_goal(alloc, encoding, table, goal)?;
     match verdict {
-        Verdict::Holds => check_held(alloc, table, goal, said),
+        Verdict::Holds => check_held(alloc, table, encoding.allocation(), goal, said),
         _ => Ok(TailVerdict::Plain(verdict)),
     }
 }

@@ -9,7 +9,7 @@ ghost use Rattle.cycle_encoding.specs.CycleFormula.{listed_in};
 ghost use Rattle.cycle_encoding.specs.CycleFormula.{before_overwritten};
 ghost use Rattle.cycle_encoding.specs.Plans.{IsTooLarge};
 ghost use Rattle.cycle_encoding.specs.Shapes.{numbered, shown};
-ghost use Rattle.cycle_encoding.specs.declared.encodings.Encoding.TheVariants.{Pinned};
+ghost use Rattle.denali_run.specs.Encodings.{encoding_for};
 ghost use Rattle.graph_meaning.specs.WellFormed.{IsLaunchGraph};
 ghost use Rattle.machine_table.specs.Tables.{IsTable};
 ghost use Rattle.order_encoding.specs.WholeFormula.{formula_in};
@@ -20,12 +20,13 @@ ghost use Rattle.least_launch.specs.FewerLaunches.{fewer_formula, fewer_in, laun
 use crate::counting::count_fewer;
 use crate::laws::fewer_clauses_say_fits;
 use cnf_core::{Cnf, Lit, at_most, counters_count};
-use cycle_encoding::{EncodeFault, Encoded, Encoding, Facts, Scope, each_encoding_has_one_list};
+use cycle_encoding::{EncodeFault, Encoded, Facts, Scope, each_encoding_has_one_list};
+use denali_run::encoding_for;
 use graph_meaning::LaunchGraph;
 use items::NoMemory;
 use machine_table::Table;
 use order_encoding::build_formula;
-use schedule_meaning::Launch;
+use schedule_meaning::{Allocation, Launch};
 use std::alloc::Global;
 
 /// The variables of launches, which are the first ones.
@@ -86,7 +87,7 @@ pub(crate) fn build_fewer(
     ensures over { OnOk result (AreOver (formula_in scope.now facts.now table.now k).vars
         (formula_in scope.now facts.now table.now k).clauses) }
 {
-    let sizes = count_fewer(facts, table, scope, k, n);
+    let sizes = count_fewer(alloc, facts, table, scope, k, n)?;
     sizes.within_limits()?;
     let encoded = build_formula(alloc, facts, table, scope, k)?;
     let mut cnf = encoded.cnf;
@@ -95,13 +96,14 @@ pub(crate) fn build_fewer(
     Ok(Encoded { cnf, plan })
 }
 
-/// The clauses of schedules with at most `n` launches in k cycles: those of the encoding with pins, and behind them
-/// that at most `n` of the launches' variables are true. Its counts are found before any clause is built; where one
-/// passes its limit they are the answer.
+/// The clauses of schedules with at most `n` launches in k cycles: those of the encoding by which schedules with this
+/// allocation are asked for, and behind them that at most `n` of the launches' variables are true. Its counts are found
+/// before any clause is built; where one passes its limit they are the answer.
 pub fn fewer(
     alloc: Global,
     graph: &LaunchGraph,
     table: &Table,
+    allocation: Allocation,
     k: u32,
     n: u32,
 ) -> Result<Encoded, EncodeFault>
@@ -109,32 +111,34 @@ pub fn fewer(
     requires launches { n ≤ most_launches }
     requires table { IsTable table.now }
     requires graph { IsLaunchGraph graph.now }
-    ensures listed { OnOk result ((l : ListedOf) × AreListed Pinned graph.now table.now k l) }
-    ensures formula { IfOk result (λ e. (l : ListedOf) → AreListed Pinned graph.now table.now k l
+    ensures listed { OnOk result ((l : ListedOf) × AreListed (encoding_for allocation) graph.now table.now k l) }
+    ensures formula { IfOk result (λ e. (l : ListedOf) → AreListed (encoding_for allocation) graph.now table.now k l
         → e.cnf ≡ fewer_formula graph.now table.now k l n) }
-    ensures plan { IfOk result (λ e. (l : ListedOf) → AreListed Pinned graph.now table.now k l → e.plan ≡ record {
-      encoding = Pinned;
-      cycles = k;
-      launches = l.launches;
-      overwritten = before_overwritten l;
-    }) }
-    ensures size { IfErr result (λ fault. (l : ListedOf) → AreListed Pinned graph.now table.now k l
+    ensures plan { IfOk result (λ e. (l : ListedOf) → AreListed (encoding_for allocation) graph.now table.now k l
+        → e.plan ≡ record {
+          encoding = encoding_for allocation;
+          cycles = k;
+          launches = l.launches;
+          overwritten = before_overwritten l;
+        }) }
+    ensures size { IfErr result (λ fault. (l : ListedOf)
+        → AreListed (encoding_for allocation) graph.now table.now k l
         → EncodeFaultIs (fewer_formula graph.now table.now k l n) fault) }
-    ensures within { OnOk result ((l : ListedOf) → AreListed Pinned graph.now table.now k l
+    ensures within { OnOk result ((l : ListedOf) → AreListed (encoding_for allocation) graph.now table.now k l
         → ¬ IsTooLarge (fewer_formula graph.now table.now k l n)) }
     ensures vars { IfOk result (λ e. length e.plan.launches ≤ e.cnf.vars) }
 
     // What the values of variables show fits and has at most n launches where they satisfy the clauses; and where a
     // schedule with at most n launches fits, some values satisfy them.
     ensures shown { IfOk result (λ e. (v : ℕ → Bool) → Satisfies v e.cnf.clauses
-        → Fits graph.now table.now k (shown v (numbered 0 e.plan.launches))
+        → Fits graph.now table.now allocation k (shown v (numbered 0 e.plan.launches))
         × (length (shown v (numbered 0 e.plan.launches)) ≤ n)) }
-    ensures some { IfOk result (λ e. (ls : List LaunchOf) → Fits graph.now table.now k ls → length ls ≤ n
+    ensures some { IfOk result (λ e. (ls : List LaunchOf) → Fits graph.now table.now allocation k ls → length ls ≤ n
         → (v : ℕ → Bool) × Satisfies v e.cnf.clauses) }
 {
     each_encoding_has_one_list();
     fewer_clauses_say_fits();
     let facts = Facts::new(alloc, graph)?;
-    let scope = Scope::of(alloc, Encoding::Pinned, &facts, table)?;
+    let scope = Scope::of(alloc, encoding_for(allocation), &facts, table)?;
     build_fewer(alloc, &facts, table, &scope, k, n)
 }

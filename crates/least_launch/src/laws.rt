@@ -3,10 +3,11 @@ ghost use Rattle.std.specs.Prelude.{◌≡◌, ◌++◌, ◌≤◌, ℕ, Bool, L
 ghost use Rattle.std.specs.List.{AllZip};
 ghost use Rattle.answer_texts.specs.declared.answers.AnswerText.{AnswerText as Answer};
 ghost use Rattle.cnf_core.specs.Formula.{AreOver, Satisfies};
+ghost use Rattle.cycle_encoding.specs.Allocations.{allocation_of};
 ghost use Rattle.cycle_encoding.specs.CycleFormula.{launch_vars, Listed as ListedOf};
 ghost use Rattle.cycle_encoding.specs.Encodings.{AreListed};
 ghost use Rattle.cycle_encoding.specs.Shapes.{shown};
-ghost use Rattle.cycle_encoding.specs.declared.encodings.Encoding.TheVariants.{Pinned};
+ghost use Rattle.cycle_encoding.specs.declared.encodings.Encoding.{Encoding as EncodingOf};
 ghost use Rattle.denali_run.specs.ClaimedResults.{StartsWithinFormat, answer_text, answer_to};
 ghost use Rattle.denali_run.specs.MatchedGoals.{IsSettings};
 ghost use Rattle.denali_run.specs.Right.{AreRightResults};
@@ -37,18 +38,19 @@ use refutation_check::printed_lines_are_read_back;
 use schedule_meaning::fitting_schedules_are_small;
 use text_core::{one_splitting, printed_lines_are_lines};
 
-/// Values that satisfy the clauses of schedules with at most n launches show a schedule that fits and has at most n.
-/// Where the clauses before the counter are over the variables before it, as they are in each formula that is built,
-/// and some schedule with at most n launches fits, some values satisfy them, which show launches of that schedule.
+/// In each encoding, values that satisfy the clauses of schedules with at most n launches show a schedule that fits, by
+/// the encoding's allocation, and has at most n. Where the clauses before the counter are over the variables before it,
+/// as they are in each formula that is built, and some schedule with at most n launches fits so, some values satisfy
+/// them, which show launches of that schedule.
 pub fn fewer_clauses_say_fits()
-    ensures shown { (g : Graph) (table : TableOf) (k n : ℕ) (l : ListedOf) (v : ℕ → Bool) → IsTable table
-        → IsLaunchGraph g → AreListed Pinned g table k l → Satisfies v (fewer_formula g table k l n).clauses
-        → Fits g table k (shown v (launch_vars l))
+    ensures shown { (e : EncodingOf) (g : Graph) (table : TableOf) (k n : ℕ) (l : ListedOf) (v : ℕ → Bool)
+        → IsTable table → IsLaunchGraph g → AreListed e g table k l → Satisfies v (fewer_formula g table k l n).clauses
+        → Fits g table (allocation_of e) k (shown v (launch_vars l))
         × (length (shown v (launch_vars l)) ≤ n) }
-    ensures some { (g : Graph) (table : TableOf) (k n : ℕ) (l : ListedOf) (ls : List LaunchOf) → IsTable table
-        → IsLaunchGraph g → AreListed Pinned g table k l
+    ensures some { (e : EncodingOf) (g : Graph) (table : TableOf) (k n : ℕ) (l : ListedOf) (ls : List LaunchOf)
+        → IsTable table → IsLaunchGraph g → AreListed e g table k l
         → AreOver (whole_formula g table k l).vars (whole_formula g table k l).clauses
-        → Fits g table k ls → length ls ≤ n
+        → Fits g table (allocation_of e) k ls → length ls ≤ n
         → (v : ℕ → Bool) × Satisfies v (fewer_formula g table k l n).clauses
         × ((x : LaunchOf) → Contains (shown v (launch_vars l)) x → Contains ls x) }
 {
@@ -61,9 +63,9 @@ pub fn fewer_clauses_say_fits()
 pub fn tailed_answers_are_read()
     ensures { (s : SettingsOf) (input : InputTree) (results : List AnsweredOf) (said : List (Option TailOf))
         → IsInput input → IsSettings s → StartsWithinFormat input
-        → AreRightResults Pinned input s results → AllZip (IsTailOf input.table s.conflicts) results said
-        → ReadsTailed (answer_text Pinned s.library input results ++ lines_text (tail_lines said))
-        (answer_to Pinned s.library input results) said }
+        → AreRightResults input s results → AllZip (IsTailOf input.table s.allocation s.conflicts) results said
+        → ReadsTailed (answer_text s input results ++ lines_text (tail_lines said))
+        (answer_to s input results) said }
 {
     right_answers_are_read();
     printed_lines_are_lines();

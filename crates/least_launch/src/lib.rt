@@ -1,14 +1,15 @@
 //! Schedules with the fewest launches: among those that fit in as many cycles, one with lines that show that no other
 //! has fewer; and these lines behind the text of an answer, written, read and tested.
 //!
-//! Proved: `fewer` builds exactly the clauses of schedules with at most n launches in k cycles (`formula`, `plan`),
-//! or gives their counts (`size`, `within`); values that satisfy them show such a schedule, and where one fits they
-//! can be satisfied (`fewer_clauses_say_fits`). `least` gives, from a schedule that fits, one with at most as many
-//! launches, and beside it nothing, exactly where it has no launch, lines that refute the clauses for one launch
-//! fewer, lemmas, or counts (`fewest`). `solve_least_text` gives right results with such schedules, their text and
-//! what is said of each (`answered`), which is read back as it was (`tailed_answers_are_read`); such a text is read
-//! in one way (`one_tailed_answer`). Where `check_least_text` says `least`, no schedule that fits in as many cycles
-//! has fewer launches, whoever wrote the text (`checked`).
+//! Proved, whether launches keep their registers to the end of the block or by live ranges: `fewer` builds exactly the
+//! clauses of schedules with at most n launches in k cycles (`formula`, `plan`), or gives their counts (`size`,
+//! `within`); values that satisfy them show such a schedule, and where one fits they can be satisfied
+//! (`fewer_clauses_say_fits`). `least` gives, from a schedule that fits, one with at most as many launches, and beside
+//! it nothing, exactly where it has no launch, lines that refute the clauses for one launch fewer, lemmas, or counts
+//! (`fewest`). `solve_least_text` gives right results with such schedules, their text and what is said of each
+//! (`answered`), which is read back as it was (`tailed_answers_are_read`); such a text is read in one way
+//! (`one_tailed_answer`). Where `check_least_text` says `least`, no schedule that fits in as many cycles, by the
+//! allocation of the text's encoding, has fewer launches, whoever wrote the text (`checked`).
 #![tactic(auto)]
 
 mod check_reporting;

@@ -4,9 +4,9 @@ ghost use Rattle.std.specs.Prelude.{◌≡◌, ◌≤◌, ◌<◌, ◌^◌, ℕ,
 ghost use Rattle.schedule_meaning.specs.Limits.{most_cycles, most_launches};
 ghost use Rattle.cnf_core.specs.Formula.{Satisfies};
 ghost use Rattle.cnf_core.specs.Refutation.{AreLemmas, IsEmptyOnlyLast, IsFilled, IsFirstRefusal, Refutes};
+ghost use Rattle.cycle_encoding.specs.CycleFormula.{allocation_in};
 ghost use Rattle.cycle_encoding.specs.Encodings.{IsScope};
 ghost use Rattle.cycle_encoding.specs.Plans.{IsTooLarge};
-ghost use Rattle.cycle_encoding.specs.declared.encodings.Encoding.TheVariants.{Pinned};
 ghost use Rattle.graph_meaning.specs.WellFormed.{IsLaunchGraph};
 ghost use Rattle.machine_table.specs.Tables.{IsTable};
 ghost use Rattle.schedule_meaning.specs.Fits.{Fits};
@@ -35,11 +35,11 @@ fn clauses(
     requires launches { n ≤ most_launches }
     requires table { IsTable table.now }
     requires graph { IsLaunchGraph facts.now }
-    requires scope { IsScope Pinned facts.now table.now scope.now }
+    requires scope { IsScope scope.now.encoding facts.now table.now scope.now }
     requires within { ¬ IsTooLarge (fewer_in scope.now facts.now table.now k n) }
     ensures formula { IfOk result (λ cnf. cnf ≡ fewer_in scope.now facts.now table.now k n) }
-    ensures each { IfOk result (λ cnf. (ls : List LaunchOf) → Fits facts.now table.now k ls → length ls ≤ n
-        → (v : ℕ → Bool) × Satisfies v cnf.clauses) }
+    ensures each { IfOk result (λ cnf. (ls : List LaunchOf) → Fits facts.now table.now (allocation_in scope.now) k ls
+        → length ls ≤ n → (v : ℕ → Bool) × Satisfies v cnf.clauses) }
 {
     fewer_clauses_say_fits();
     match build_fewer(alloc, facts, table, scope, k, n) {
@@ -63,15 +63,15 @@ pub(crate) fn refused_line(
     requires launches { n ≤ most_launches }
     requires table { IsTable table.now }
     requires graph { IsLaunchGraph facts.now }
-    requires scope { IsScope Pinned facts.now table.now scope.now }
+    requires scope { IsScope scope.now.encoding facts.now table.now scope.now }
     requires within { ¬ IsTooLarge (fewer_in scope.now facts.now table.now k n) }
     requires few { length lines.now.lines < 2 ^ 29 }
     ensures exact { IfOk result (λ found. MatchOption found
         (Refutes (fewer_in scope.now facts.now table.now k n) lines.now.lines)
         (λ e. IsFirstRefusal (IsEmptyOnlyLast lines.now.lines) (fewer_in scope.now facts.now table.now k n)
         lines.now.lines e.line e.why)) }
-    ensures none_fits { IfOk result (λ found. IfNone found
-        ((ls : List LaunchOf) → Fits facts.now table.now k ls → ¬ (length ls ≤ n))) }
+    ensures none_fits { IfOk result (λ found. IfNone found ((ls : List LaunchOf)
+        → Fits facts.now table.now (allocation_in scope.now) k ls → ¬ (length ls ≤ n))) }
 {
     let cnf = clauses(alloc, facts, table, scope, k, n)?;
     let mut marks = Marks::new(alloc, cnf.vars())?;
@@ -95,7 +95,7 @@ pub(crate) fn refused_lemma(
     requires launches { n ≤ most_launches }
     requires table { IsTable table.now }
     requires graph { IsLaunchGraph facts.now }
-    requires scope { IsScope Pinned facts.now table.now scope.now }
+    requires scope { IsScope scope.now.encoding facts.now table.now scope.now }
     requires within { ¬ IsTooLarge (fewer_in scope.now facts.now table.now k n) }
     requires few { length lines.now.lines < 2 ^ 29 }
     ensures { IfOk result (λ found. MatchOption found

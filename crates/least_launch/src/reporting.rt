@@ -1,6 +1,5 @@
 // The bytes of an answer with lines behind it, and its status.
 ghost use Rattle.std.specs.Prelude.{◌≡◌, ◌++◌, ◌||◌, IfOk, length, if◌then◌else◌};
-ghost use Rattle.cycle_encoding.specs.declared.encodings.Encoding.TheVariants.{Pinned};
 ghost use Rattle.denali_run.specs.ClaimedResults.{answer_text};
 ghost use Rattle.reports.specs.Statuses.{greater};
 ghost use Rattle.reports.specs.declared.statuses.Status.TheVariants.{Spent};
@@ -11,8 +10,7 @@ ghost use Rattle.least_launch.specs.TailLines.{tail_lines};
 
 use crate::tail_printing::put_tails;
 use crate::tails::Tail;
-use axiom_library::Library;
-use denali_run::{Answered, answer_text};
+use denali_run::{Answered, Settings, answer_text};
 use goal_meaning::Input;
 use items::NoMemory;
 use reports::{Report, Status};
@@ -52,21 +50,21 @@ fn with_spent(status: Status, spent: bool) -> Status
     }
 }
 
-/// The answer to an input, of which each goal has a result that was found with the library's rules, with what is said of
+/// The answer to an input, of which each goal has a result that was found with these settings, with what is said of
 /// their schedules behind it.
 pub fn report_least(
     alloc: Global,
-    library: Library,
+    settings: &Settings,
     input: &Input,
     results: &[Answered],
     said: &[Option<Tail>],
 ) -> Result<Report, NoMemory>
     requires { length results.now ≡ length input.now.goals }
     ensures bytes { IfOk result (λ report. report.bytes.items
-        ≡ answer_text Pinned library (input_view input.now) results.now ++ lines_text (tail_lines said.now)) }
+        ≡ answer_text settings.now (input_view input.now) results.now ++ lines_text (tail_lines said.now)) }
     ensures status { IfOk result (λ report. report.status ≡ format.least_status results.now said.now) }
 {
-    let answer = answer_text(alloc, library, input, results)?;
+    let answer = answer_text(alloc, settings, input, results)?;
     let mut bytes = answer.bytes;
     put_tails(alloc, &mut bytes, said)?;
     Ok(Report {

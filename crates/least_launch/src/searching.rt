@@ -1,8 +1,9 @@
 // Schedules with fewer and fewer launches, until no fewer are found.
 ghost use Rattle.std.specs.Prelude.{◌≡◌, ◌+◌, ◌≤◌, IfOk, length};
 ghost use Rattle.schedule_meaning.specs.Limits.{most_cycles, most_launches};
+ghost use Rattle.cycle_encoding.specs.CycleFormula.{allocation_in};
 ghost use Rattle.cycle_encoding.specs.Encodings.{IsScope};
-ghost use Rattle.cycle_encoding.specs.declared.encodings.Encoding.TheVariants.{Pinned};
+ghost use Rattle.denali_run.specs.Encodings.{encoding_for};
 ghost use Rattle.graph_meaning.specs.WellFormed.{IsLaunchGraph};
 ghost use Rattle.machine_table.specs.Tables.{IsTable};
 ghost use Rattle.register_assign.specs.Assigned.{HaveWords, KeepsWord};
@@ -14,14 +15,17 @@ use crate::encoding::build_fewer;
 use crate::laws::fewer_clauses_say_fits;
 use crate::results::{Least, Proof};
 use cnf_core::refutations_leave_no_solution;
-use cycle_encoding::{EncodeFault, Encoded, Encoding, Facts, Scope};
+use cycle_encoding::{EncodeFault, Encoded, Facts, Scope};
+use denali_run::encoding_for;
 use graph_meaning::LaunchGraph;
 use items::NoMemory;
 use machine_table::Table;
 use pick_rule::{Picker, Rule};
 use register_assign::assign;
 use sat_core::{Verdict, solve_from};
-use schedule_meaning::{Launch, Schedule, fits_in_any_order, fitting_schedules_are_small};
+use schedule_meaning::{
+    Allocation, Launch, Schedule, fits_in_any_order, fitting_schedules_are_small,
+};
 use schedule_reader::read_off;
 use std::alloc::{AllocError, Global};
 
@@ -72,9 +76,9 @@ fn try_fewer<F: Rule>(
     requires launches { n ≤ most_launches }
     requires table { IsTable table.now }
     requires graph { IsLaunchGraph facts.now }
-    requires scope { IsScope Pinned facts.now table.now scope.now }
+    requires scope { IsScope (encoding_for (allocation_in scope.now)) facts.now table.now scope.now }
     requires conflicts { (1 ≤ conflicts) × (conflicts ≤ 1000000) }
-    ensures { IfOk result (IsStep facts.now table.now k conflicts n) }
+    ensures { IfOk result (IsStep facts.now table.now (allocation_in scope.now) k conflicts n) }
 {
     refutations_leave_no_solution();
     fits_in_any_order();
@@ -109,10 +113,11 @@ fn lessen<F: Rule>(
     requires cycles { k ≤ most_cycles }
     requires table { IsTable table.now }
     requires graph { IsLaunchGraph facts.now }
-    requires scope { IsScope Pinned facts.now table.now scope.now }
-    requires fits { Fits facts.now table.now k given.launches }
+    requires scope { IsScope (encoding_for (allocation_in scope.now)) facts.now table.now scope.now }
+    requires fits { Fits facts.now table.now (allocation_in scope.now) k given.launches }
     requires conflicts { (1 ≤ conflicts) × (conflicts ≤ 1000000) }
-    ensures { IfOk result (λ end. IsStepsEnd facts.now table.now k conflicts given.launches end.0 end.1) }
+    ensures { IfOk result (λ end. IsStepsEnd facts.now table.now (allocation_in scope.now) k conflicts given.launches
+        end.0 end.1) }
 {
     fitting_schedules_are_small();
     let mut schedule = given;
@@ -145,6 +150,7 @@ pub fn least<F: Rule>(
     alloc: Global,
     graph: &LaunchGraph,
     table: &Table,
+    allocation: Allocation,
     k: u32,
     schedule: Schedule,
     conflicts: u32,
@@ -153,16 +159,16 @@ pub fn least<F: Rule>(
     requires cycles { k ≤ most_cycles }
     requires table { IsTable table.now }
     requires graph { IsLaunchGraph graph.now }
-    requires fits { Fits graph.now table.now k schedule.launches }
+    requires fits { Fits graph.now table.now allocation k schedule.launches }
     requires conflicts { (1 ≤ conflicts) × (conflicts ≤ 1000000) }
-    ensures fewest { IfOk result (IsFewest graph.now table.now k conflicts schedule.launches) }
+    ensures fewest { IfOk result (IsFewest graph.now table.now allocation k conflicts schedule.launches) }
     ensures words { IfOk result (λ found. HaveWords found.listing.items) }
     ensures keeps { IfOk result (λ found. KeepsWord graph.now table.now k found.listing.items found.listing.wheres) }
 {
     let facts = Facts::new(alloc, graph)?;
-    let scope = Scope::of(alloc, Encoding::Pinned, &facts, table)?;
+    let scope = Scope::of(alloc, encoding_for(allocation), &facts, table)?;
     let (schedule, proof) = lessen(alloc, &facts, table, &scope, k, schedule, conflicts, picker)?;
-    let listing = assign(alloc, graph, table, k, &schedule)?;
+    let listing = assign(alloc, graph, table, allocation, k, &schedule)?;
     Ok(Least {
         schedule,
         listing,

@@ -1,7 +1,6 @@
 // The work of `solve --least`, from the bytes of a text of goals to those of its answer.
 ghost use Rattle.std.specs.Prelude.{◌≡◌, ◌<◌, ◌≤◌, ◌^◌, IfOk, IfErr, Some, length, slice_get};
 ghost use Rattle.std.specs.List.{AllZip};
-ghost use Rattle.cycle_encoding.specs.declared.encodings.Encoding.TheVariants.{Pinned};
 ghost use Rattle.denali_run.specs.MatchedGoals.{IsSettings};
 ghost use Rattle.denali_run.specs.Picks.{PicksPlace};
 ghost use Rattle.denali_run.specs.Right.{AreRightResults, Right};
@@ -27,7 +26,7 @@ use machine_table::Table;
 use pick_rule::{Picker, Rule};
 use register_assign::words_of;
 use reports::{Report, TextError};
-use schedule_meaning::fitting_schedules_are_small;
+use schedule_meaning::{Allocation, fitting_schedules_are_small};
 use std::alloc::Global;
 
 /// What is said of a schedule with so many launches by what stands beside it.
@@ -55,14 +54,15 @@ fn said_by(alloc: Global, launches: u32, proof: Proof) -> Tail
 fn lessened<F: Rule>(
     alloc: Global,
     table: &Table,
+    allocation: Allocation,
     conflicts: u32,
     found: Found,
     picker: &Picker<F>,
 ) -> Result<(Found, Tail), NoMemory>
     requires table { IsTable table.now }
     requires conflicts { (1 ≤ conflicts) × (conflicts ≤ 1000000) }
-    requires can { CanLessen table.now found }
-    ensures { IfOk result (λ p. IsLessened table.now conflicts found p.0 p.1) }
+    requires can { CanLessen table.now allocation found }
+    ensures { IfOk result (λ p. IsLessened table.now allocation conflicts found p.0 p.1) }
 {
     fitting_schedules_are_small();
     let matched = found.matched;
@@ -71,6 +71,7 @@ fn lessened<F: Rule>(
         alloc,
         &matched.graph,
         table,
+        allocation,
         found.k,
         schedule,
         conflicts,
@@ -93,18 +94,19 @@ fn lessened<F: Rule>(
 fn with_fewest<F: Rule>(
     alloc: Global,
     table: &Table,
+    allocation: Allocation,
     conflicts: u32,
     answered: Answered,
     picker: &Picker<F>,
 ) -> Result<(Answered, Option<Tail>), NoMemory>
     requires table { IsTable table.now }
     requires conflicts { (1 ≤ conflicts) × (conflicts ≤ 1000000) }
-    requires can { MayLessen table.now answered }
-    ensures { IfOk result (λ p. IsWithFewest table.now conflicts answered p.0 p.1) }
+    requires can { MayLessen table.now allocation answered }
+    ensures { IfOk result (λ p. IsWithFewest table.now allocation conflicts answered p.0 p.1) }
 {
     match answered {
         Answered::Scheduled(found) => {
-            let (found, tail) = lessened(alloc, table, conflicts, found, picker)?;
+            let (found, tail) = lessened(alloc, table, allocation, conflicts, found, picker)?;
             Ok((Answered::Scheduled(found), Some(tail)))
         }
         other => Ok((other, None)),
@@ -123,11 +125,18 @@ fn solve_fewest<F: Rule>(
     requires at { at < length input.now.goals }
     requires settings { IsSettings settings.now }
     ensures { IfOk result (λ p. (goal : GoalTree) → slice_get (input_view input.now).goals at ≡ Some goal
-        → Right Pinned (input_view input.now) goal settings.now p.0
-        × IsTailOf input.now.table settings.now.conflicts p.0 p.1) }
+        → Right (input_view input.now) goal settings.now p.0
+        × IsTailOf input.now.table settings.now.allocation settings.now.conflicts p.0 p.1) }
 {
     let answered = solve_goal(alloc, input, at, settings, picker)?;
-    with_fewest(alloc, &input.table, settings.conflicts, answered, picker)
+    with_fewest(
+        alloc,
+        &input.table,
+        settings.allocation,
+        settings.conflicts,
+        answered,
+        picker,
+    )
 }
 
 /// The results of the goals of an input, and what is said of their schedules.
@@ -146,8 +155,8 @@ fn solve_goals<F: Rule>(
 ) -> Result<LeastResults, NoMemory>
     requires input { IsInput (input_view input.now) }
     requires settings { IsSettings settings.now }
-    ensures right { IfOk result (λ s. AreRightResults Pinned (input_view input.now) settings.now s.results.items) }
-    ensures said { IfOk result (λ s. AllZip (IsTailOf input.now.table settings.now.conflicts)
+    ensures right { IfOk result (λ s. AreRightResults (input_view input.now) settings.now s.results.items) }
+    ensures said { IfOk result (λ s. AllZip (IsTailOf input.now.table settings.now.allocation settings.now.conflicts)
         s.results.items s.said.items) }
 {
     let mut results = Vec::new(alloc);
@@ -170,8 +179,8 @@ fn solve_by<F: Rule + Drop>(
     requires input { IsInput (input_view input.now) }
     requires settings { IsSettings settings.now }
     requires rule { F.answers_places rule }
-    ensures right { IfOk result (λ s. AreRightResults Pinned (input_view input.now) settings.now s.results.items) }
-    ensures said { IfOk result (λ s. AllZip (IsTailOf input.now.table settings.now.conflicts)
+    ensures right { IfOk result (λ s. AreRightResults (input_view input.now) settings.now s.results.items) }
+    ensures said { IfOk result (λ s. AllZip (IsTailOf input.now.table settings.now.allocation settings.now.conflicts)
         s.results.items s.said.items) }
 {
     let picker = Picker::new(rule);
@@ -186,8 +195,8 @@ pub fn solve_least_input(
 ) -> Result<LeastResults, NoMemory>
     requires input { IsInput (input_view input.now) }
     requires settings { IsSettings settings.now }
-    ensures right { IfOk result (λ s. AreRightResults Pinned (input_view input.now) settings.now s.results.items) }
-    ensures said { IfOk result (λ s. AllZip (IsTailOf input.now.table settings.now.conflicts)
+    ensures right { IfOk result (λ s. AreRightResults (input_view input.now) settings.now s.results.items) }
+    ensures said { IfOk result (λ s. AllZip (IsTailOf input.now.table settings.now.allocation settings.now.conflicts)
         s.results.items s.said.items) }
 {
     let pick = settings.pick;
@@ -220,11 +229,5 @@ pub fn solve_least_text(
     tailed_answers_are_read();
     let input = read(alloc, text)?;
     let solved = solve_least_input(alloc, &input, settings)?;
-    Ok(report_least(
-        alloc,
-        settings.library,
-        &input,
-        &solved.results,
-        &solved.said,
-    )?)
+    Ok(report_least(alloc, settings, &input, &solved.results, &solved.said)?)
 }

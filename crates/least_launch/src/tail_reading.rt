@@ -178,9 +178,9 @@ fn read_around(
     Ok(Tailed { answer, said })
 }
 
-/// Reads an answer in version 1 or 2, and behind the line `tail` what is said of each goal that is scheduled. A fault
-/// is the text's first. The answer is what stands in front of the first line `tail`. The cost is that of reading an
-/// answer.
+/// Reads an answer in version 1, 2 or 3, and behind the line `tail` what is said of each goal that is scheduled. A
+/// fault is the text's first. The answer is what stands in front of the first line `tail`. The cost is that of reading
+/// an answer.
 pub fn read_tailed(alloc: Global, text: &[u8]) -> Result<Tailed, TextFault>
     requires { length text.now < 2 ^ 29 }
     ensures ok { IfOk result (λ t. ReadsTailed text.now t.answer t.said) }

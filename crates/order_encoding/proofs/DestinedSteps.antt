@@ -1,26 +1,28 @@
 -- Sums over destinations and over pinned sets.
-use Rattle.std.proofs.Common.{◌≡◌, ℕ, ◌+◌, ◌*◌, not, cond, List, [], ◌∷◌, length, refl, sym, ap, ◌∙◌, arith}
+use Rattle.std.proofs.Common.{◌≡◌, ℕ, ◌+◌, ◌*◌, ◌&&◌, true, false, not, cond, List, [], ◌∷◌, length, refl, sym, ap, ◌∙◌, arith}
 use Rattle.std.specs.Prelude.{is_some}
 use Rattle.std.specs.List.{sum_by}
 use Rattle.std.proofs.lemmas.List.Sums.{sum_by-cons, length-filter}
 use Rattle.cnf_core.specs.Counter.{at_most_size}
 use Rattle.machine_table.specs.declared.tables.Table.{Table}
 use Rattle.graph_meaning.specs.declared.graphs.LaunchGraph.{LaunchGraph}
+use Rattle.schedule_meaning.specs.declared.schedules.Allocation.{Allocation}
 use Rattle.schedule_meaning.specs.declared.schedules.To.{To}
 use Rattle.cycle_encoding.specs.Counts.{one_if}
 use Rattle.cycle_encoding.specs.CycleFormula.{Scope}
 use Rattle.cycle_encoding.specs.Variables.{pinned_sets, overwriting_sets, is_overwriting}
-use Rattle.cycle_encoding.specs.Counts.{row_destinations}
+use Rattle.cycle_encoding.specs.Counts.{row_destinations, row_is}
+use Rattle.schedule_meaning.specs.Launches.{is_load}
 use Rattle.order_encoding.specs.PinFamilies.{has_own_input, unmet_sets}
-use Rattle.order_encoding.specs.OrderCounts.{goes_count, late_count, pins_size}
+use Rattle.order_encoding.specs.OrderCounts.{goes_count, late_count, over_load_count, overwrites_at, pins_size}
 use Rattle.order_encoding.specs.OrderSteps.{set_size}
 use Rattle.cycle_encoding.proofs.Totals.{sum-const}
 use Rattle.cycle_encoding.proofs.RowPlaces.{sum_kept}
 use Rattle.cycle_encoding.proofs.DestinedTotals.{overwriting_pins}
 
 -- the same for each destination of a row
-pub sum_same : (g : LaunchGraph) (row c : ℕ) → sum_by (λ (to : To). c) (row_destinations g row) ≡ length (row_destinations g row) * c
-sum_same g row c = sum-const c (row_destinations g row)
+pub sum_same : (g : LaunchGraph) (a : Allocation) (row c : ℕ) → sum_by (λ (to : To). c) (row_destinations g a row) ≡ length (row_destinations g a row) * c
+sum_same g a row c = sum-const c (row_destinations g a row)
 
 sum_three : (a b c : ℕ → ℕ) (xs : List ℕ) → sum_by (λ x. a x + b x + c x) xs ≡ sum_by a xs + sum_by b xs + sum_by c xs
 sum_three a b c [] = refl
@@ -33,7 +35,7 @@ sum_three a b c (x ∷ xs) =
     omega arith
 
 -- the clauses of pins, set by set
-pub sizes_are : (g : LaunchGraph) (table : Table) (k : ℕ) (s : Scope) → sum_by (set_size g table k s) (pinned_sets g) + cond (is_some g.guard) (late_count g table k s) 0 ≡ pins_size g table k s
+pub sizes_are : (g : LaunchGraph) (table : Table) (k : ℕ) (s : Scope) → sum_by (set_size g table k s) (pinned_sets g) + cond (is_some g.guard) (late_count g table k s) 0 + over_load_count g table k s ≡ pins_size g table k s
 sizes_are g table k s =
     let goes = goes_count g table k s in
     let a : ℕ → ℕ = λ j. at_most_size 1 (goes j) in
@@ -44,3 +46,12 @@ sizes_are g table k s =
     sym (sum_kept (is_overwriting g) (λ j. goes j + k) (pinned_sets g)) ∙ ap (sum_by (λ j. goes j + k)) (overwriting_pins g) in
     let unmet : sum_by c (pinned_sets g) ≡ length (unmet_sets g) = sym (length-filter (λ j. not (has_own_input g j)) (pinned_sets g)) in
     omega arith
+
+-- what overwrites by a load
+pub load_overs : (g : LaunchGraph) (a : Allocation) (row : ℕ) → row_is g is_load row ≡ true → sum_by (λ to. one_if (overwrites_at g to)) (row_destinations g a row) ≡ sum_by (λ to. one_if (row_is g is_load row && overwrites_at g to)) (row_destinations g a row)
+load_overs g a row e = ap (λ b. sum_by (λ to. one_if (b && overwrites_at g to)) (row_destinations g a row)) (sym e)
+
+pub no_load_overs : (g : LaunchGraph) (a : Allocation) (row : ℕ) → row_is g is_load row ≡ false → 0 ≡ sum_by (λ to. one_if (row_is g is_load row && overwrites_at g to)) (row_destinations g a row)
+no_load_overs g a row e =
+    (let z : 0 ≡ length (row_destinations g a row) * 0 = omega arith in z) ∙ sym (sum-const 0 (row_destinations g a row))
+    ∙ ap (λ b. sum_by (λ to. one_if (b && overwrites_at g to)) (row_destinations g a row)) (sym e)

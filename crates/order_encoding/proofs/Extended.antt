@@ -321,18 +321,19 @@ has_guard g h none e s n = ap (λ (x : LaunchGraph). is_some x.guard) (sym e) �
 pub no_guard : (g h : LaunchGraph) (none : Bool) → h ≡ g → is_some h.guard ≡ not none → none ≡ true → is_some g.guard ≡ false
 no_guard g h none e s n = ap (λ (x : LaunchGraph). is_some x.guard) (sym e) ∙ s ∙ ap not n
 
--- pins: two families, counters between them, and a last family
-module _ (O P T G : List (List Lit)) (f f1 f2 f3 : Formula) where
+-- pins: two families, counters between them, and two last families
+module _ (O P T A G : List (List Lit)) (f f1 f2 f3 f4 : Formula) where
   abbrev pub pins-all : List (List Lit)
-  pins-all = O ++ counters f.vars 1 G ++ P ++ T
+  pins-all = O ++ counters f.vars 1 G ++ P ++ T ++ A
 
   module _ (size : (old p : ℕ) (lits : List Lit) → length (at_most_clauses old p lits) ≡ at_most_size p (length lits)) (few : length (f.clauses ++ pins-all) ≤ most_clauses) where
-    pins-total : length f.clauses + length O + counters_size 1 G + length P + length T ≤ most_clauses
+    pins-total : length f.clauses + length O + counters_size 1 G + length P + length T + length A ≤ most_clauses
     pins-total =
         let a = length-append f.clauses pins-all in
-        let b = length-append (O ++ counters f.vars 1 G ++ P) T in
-        let c = length-append (O ++ counters f.vars 1 G) P in
-        let d = length-append O (counters f.vars 1 G) in
+        let b = length-append (O ++ counters f.vars 1 G ++ P ++ T) A in
+        let c = length-append (O ++ counters f.vars 1 G ++ P) T in
+        let d = length-append (O ++ counters f.vars 1 G) P in
+        let e = length-append O (counters f.vars 1 G) in
         let s = counters-size 1 size f.vars G in
         omega arith
 
@@ -357,12 +358,19 @@ module _ (O P T G : List (List Lit)) (f f1 f2 f3 : Formula) where
         pub pins-room3 : length f2.clauses + length P < 2 ^ 30
         pins-room3 = (let a = pins-total in let b = pins-size2 in omega arith)
 
-        pub pins-room4 : f3 ≡ with_clauses f2 P → length f3.clauses + length T < 2 ^ 30
-        pins-room4 e3 =
-            let a = pins-total in
-            let b = pins-size2 in
-            let c = ap (λ (f : Formula). length f.clauses) e3 ∙ length-append f2.clauses P in
-            omega arith
+        module _ (e3 : f3 ≡ with_clauses f2 P) where
+          pins-size3 : length f3.clauses ≡ length f.clauses + length O + counters_size 1 G + length P
+          pins-size3 = (let b = pins-size2 in let c = ap (λ (f : Formula). length f.clauses) e3 ∙ length-append f2.clauses P in omega arith)
+
+          pub pins-room4 : length f3.clauses + length T < 2 ^ 30
+          pins-room4 = (let a = pins-total in let b = pins-size3 in omega arith)
+
+          pub pins-room5 : f4 ≡ with_clauses f3 T → length f4.clauses + length A < 2 ^ 30
+          pins-room5 e4 =
+              let a = pins-total in
+              let b = pins-size3 in
+              let c = ap (λ (f : Formula). length f.clauses) e4 ∙ length-append f3.clauses T in
+              omega arith
 
   module _ (e1 : f1 ≡ with_clauses f O) where
     pub pins-vars1 : f1.vars ≡ f.vars
@@ -376,12 +384,18 @@ module _ (O P T G : List (List Lit)) (f f1 f2 f3 : Formula) where
         pub pins-vars3 : f3.vars ≡ f.vars + counters_vars 1 G
         pins-vars3 = ap (λ (f : Formula). f.vars) e3 ∙ pins-vars2
 
-        pub pins-end : (let end : Formula = record { vars = f.vars + counters_vars 1 G; clauses = f.clauses ++ pins-all } in with_clauses f3 T ≡ end)
-        pins-end =
-            ap (λ (h : Formula). with_clauses h T) e3
-            ∙ ap (λ (h : Formula). with_clauses (with_clauses h P) T) e2
-            ∙ ap (λ (h : Formula). with_clauses (with_clauses (with_counters h G) P) T) e1
-            ∙ formula (f.vars + counters_vars 1 G) (f.vars + counters_vars 1 G) ((((f.clauses ++ O) ++ counters f.vars 1 G) ++ P) ++ T) (f.clauses ++ pins-all) refl
-            (ap (λ (cs : List (List Lit)). (cs ++ P) ++ T) (append_assoc f.clauses O (counters f.vars 1 G))
-            ∙ ap (λ (cs : List (List Lit)). cs ++ T) (append_assoc f.clauses (O ++ counters f.vars 1 G) P)
-            ∙ append_assoc f.clauses (O ++ counters f.vars 1 G ++ P) T)
+        module _ (e4 : f4 ≡ with_clauses f3 T) where
+          pub pins-vars4 : f4.vars ≡ f.vars + counters_vars 1 G
+          pins-vars4 = ap (λ (f : Formula). f.vars) e4 ∙ pins-vars3
+
+          pub pins-end : (let end : Formula = record { vars = f.vars + counters_vars 1 G; clauses = f.clauses ++ pins-all } in with_clauses f4 A ≡ end)
+          pins-end =
+              ap (λ (h : Formula). with_clauses h A) e4
+              ∙ ap (λ (h : Formula). with_clauses (with_clauses h T) A) e3
+              ∙ ap (λ (h : Formula). with_clauses (with_clauses (with_clauses h P) T) A) e2
+              ∙ ap (λ (h : Formula). with_clauses (with_clauses (with_clauses (with_counters h G) P) T) A) e1
+              ∙ formula (f.vars + counters_vars 1 G) (f.vars + counters_vars 1 G) (((((f.clauses ++ O) ++ counters f.vars 1 G) ++ P) ++ T) ++ A) (f.clauses ++ pins-all) refl
+              (ap (λ (cs : List (List Lit)). ((cs ++ P) ++ T) ++ A) (append_assoc f.clauses O (counters f.vars 1 G))
+              ∙ ap (λ (cs : List (List Lit)). (cs ++ T) ++ A) (append_assoc f.clauses (O ++ counters f.vars 1 G) P)
+              ∙ ap (λ (cs : List (List Lit)). cs ++ A) (append_assoc f.clauses (O ++ counters f.vars 1 G ++ P) T)
+              ∙ append_assoc f.clauses (O ++ counters f.vars 1 G ++ P ++ T) A)

@@ -17,6 +17,7 @@ use Rattle.machine_table.specs.declared.tables.Table.{Table}
 use Rattle.graph_meaning.specs.declared.graphs.LaunchGraph.{LaunchGraph}
 use Rattle.graph_meaning.specs.declared.graphs.SetClass.{SetClass}
 use Rattle.schedule_meaning.specs.declared.schedules.To.TheVariants.{Set}
+use Rattle.schedule_meaning.specs.declared.schedules.Allocation.{Allocation}
 use Rattle.schedule_meaning.specs.declared.schedules.Launch.{Launch}
 use Rattle.schedule_meaning.proofs.Rules.{at_each}
 use Rattle.schedule_meaning.proofs.Pins.{pinned_from}
@@ -38,8 +39,8 @@ use Rattle.order_encoding.proofs.Complete.{SameLaunches, KeepsOrder, come_now, c
 use Rattle.order_encoding.proofs.OrderSays.{SaysPool, SaysPins, SaysLate}
 
 -- a schedule that fits keeps memory and the branch in order
-pub order_of : (g : LaunchGraph) (table : Table) (k : ℕ) (ls : List Launch) → Fits g table k ls → KeepsOrder g ls
-order_of g table k ls fit = record {
+pub order_of : (g : LaunchGraph) (table : Table) (a : Allocation) (k : ℕ) (ls : List Launch) → Fits g table a k ls → KeepsOrder g ls
+order_of g table a k ls fit = record {
   memory = fit.memory;
   one_branch = fit.one_branch;
   after_branch = All-weaker (Waits g ls) (WaitsPlain g ls) (λ l w c. w (elim c [ inl a ↦ inl a | inr b ↦ inr (inl b) ])) ls fit.after_branch;
@@ -55,9 +56,9 @@ module _ (g : LaunchGraph) (table : Table) (k : ℕ) (ls : List Launch) where
   abbrev pub pool_taken : List Taken
   pool_taken = filter pool_taken_now (all_taken table k)
 
-  module _ (S : List Launch) (same : SameLaunches table k ls S) (is_graph : IsLaunchGraph g) (fit : Fits g table k ls) where
+  module _ (S : List Launch) (same : SameLaunches table k ls S) (is_graph : IsLaunchGraph g) (a : Allocation) (fit : Fits g table a k ls) where
     order : KeepsOrder g ls
-    order = order_of g table k ls fit
+    order = order_of g table a k ls fit
 
     -- ---- the branch
 
@@ -107,11 +108,10 @@ module _ (g : LaunchGraph) (table : Table) (k : ℕ) (ls : List Launch) where
               omega arith)
         ]
 
-    pub pinned-pool-few : count_by any pool_taken ≤ length g.pool
-    pinned-pool-few =
+    pub pinned-pool-few : count_by (takes_pool g) ls ≤ length g.pool → count_by any pool_taken ≤ length g.pool
+    pinned-pool-few c =
         let a = count-by-places any (λ (l : Launch) (u : Taken). takes u l) ls pool_taken (All-from_members (λ u. any u ≡ true → list_any (λ l. takes u l) ls ≡ true) pool_taken (λ u h e. (filter-out pool_taken_now (all_taken table k) u h).1)) in
         let b = sum_by-le-sum_by (λ l. count_by (λ u. any u && takes u l) pool_taken) (λ l. cond {A = ℕ} (takes_pool g l) 1 0) ls by_launch in
-        let c : count_by (takes_pool g) ls ≤ length g.pool = fit.pool in
         omega arith
 
     -- ---- pins

@@ -1,39 +1,51 @@
 -- Values that satisfy the whole formula with pins show a schedule that fits.
-use Rattle.std.proofs.Common.{◌≡◌, ℕ, ◌+◌, ◌<◌, ◌≤◌, Bool, true, false, List, [], ◌∷◌, ◌++◌, length, get_or, ap, ◌∙◌, arith, Some}
+use Rattle.std.proofs.Common.{◌≡◌, ℕ, ◌+◌, ◌<◌, ◌≤◌, Bool, true, false, List, [], ◌∷◌, ◌++◌, length, get_or, ap, ◌∙◌, subst, arith, Some}
 use Rattle.std.specs.Prelude.{◌==◌, is_some, Contains, slice_get}
-use Rattle.std.specs.List.{All, count_by, range_with_len}
+use Rattle.std.specs.List.{All, AllPairs, count_by, range_with_len}
 use Rattle.std.proofs.lemmas.List.Elements.{All-nil, All-cons, All-head, All-map, All-append, All-contains}
 use Rattle.cnf_core.specs.declared.literal.Lit.{Lit}
 use Rattle.cnf_core.specs.Formula.{Satisfies, AreOver, IsLitOf}
 use Rattle.cnf_core.specs.Counter.{count_true}
 use Rattle.schedule_meaning.specs.Launches.{launches, is_branch, pin_of, goes_to}
-use Rattle.schedule_meaning.specs.Fits.{Fits}
+use Rattle.graph_meaning.specs.WellFormed.{IsLaunchGraph}
+use Rattle.schedule_meaning.specs.Fits.{Collide, Fits, HasRoom}
 use Rattle.machine_table.specs.declared.tables.Table.{Table}
 use Rattle.graph_meaning.specs.declared.graphs.LaunchGraph.{LaunchGraph}
 use Rattle.schedule_meaning.specs.declared.schedules.To.TheVariants.{Set}
+use Rattle.schedule_meaning.specs.declared.schedules.Allocation.{Allocation}
+use Rattle.schedule_meaning.specs.declared.schedules.Allocation.TheVariants.{Block, Live}
 use Rattle.schedule_meaning.specs.declared.schedules.Launch.{Launch}
 use Rattle.schedule_meaning.proofs.Rules.{in_list}
 use Rattle.schedule_meaning.proofs.Pins.{pinned_from}
 use Rattle.cycle_encoding.specs.Shapes.{vars_of, shown, counters, when}
 use Rattle.cycle_encoding.specs.Families.{any}
-use Rattle.cycle_encoding.specs.CycleFormula.{Listed, launch_vars}
+use Rattle.cycle_encoding.specs.CycleFormula.{Listed, before_overwritten, launch_vars}
 use Rattle.cycle_encoding.specs.CycleRules.{HasPlace}
-use Rattle.cycle_encoding.specs.Variables.{set_numbers, pinned_sets}
+use Rattle.cycle_encoding.specs.Variables.{all_overwritten, is_overwriting, set_numbers, pinned_sets, Overwritten}
 use Rattle.cycle_encoding.specs.CycleFormula.{overwritten_vars, after_counters, cycle_part, cycle_formula}
-use Rattle.cycle_encoding.specs.CycleRules.{KeepsCycleRules, ArePinsKept}
+use Rattle.cycle_encoding.specs.CycleRules.{KeepsCycleRules, ArePinsKept, WasOverwritten}
 use Rattle.order_encoding.specs.OrderVariables.{Held, all_held, all_taken}
 use Rattle.order_encoding.specs.OrderFamilies.{stores_at, entry_clauses, memory_clauses, kept_clauses, held_groups, store_groups, last_clauses, branch_clauses, branch_groups, wait_clauses, come_clauses, register_groups}
-use Rattle.order_encoding.specs.PinFamilies.{pool_clauses, overwritten_clauses, pin_groups, pin_clauses, late_clauses}
-use Rattle.order_encoding.specs.WholeFormula.{whole_formula}
-use Rattle.order_encoding.proofs.Parts.{held_vars, store_vars, before_held, memory_groups, come_vars, before_branch, after_guard, taken_vars, before_pool, after_pool, memory_part, guard_part, pool_part, pins_part}
+use Rattle.order_encoding.specs.PinFamilies.{pool_clauses, overwritten_clauses, pin_groups, pin_clauses, late_clauses, load_clauses}
+use Rattle.order_encoding.specs.LiveVariables.{Hold, all_holds, all_needs, pooled_classes}
+use Rattle.order_encoding.specs.LiveFamilies as live
+use Rattle.order_encoding.specs.LiveFamilies.{need_clauses, earlier_clauses, hold_clauses, hold_groups}
+use Rattle.order_encoding.specs.WholeFormula.{pool_formula, pins_formula}
+use Rattle.order_encoding.proofs.Parts.{held_vars, before_stores, store_vars, before_held, memory_groups, come_vars, before_branch, after_guard, taken_vars, before_pool, need_vars, before_holds, hold_vars, before_counts, after_pool, memory_part, guard_part, registers_part, live_part, pool_part_of, pool_part, pool-clauses, pool-up, pins_part}
 use Rattle.cycle_encoding.proofs.Shown.{left, right}
 use Rattle.cycle_encoding.proofs.ShownTests.{few-out}
 use Rattle.cycle_encoding.proofs.Blocks.{AreExact, vars-over, counters-out}
 use Rattle.cycle_encoding.proofs.MadeLists.{at_range, All-left, All-right, All-unmap}
-use Rattle.cycle_encoding.proofs.Members.{filter-in, range-in}
+use Rattle.cycle_encoding.proofs.Lists.{over-once}
+use Rattle.cycle_encoding.proofs.Members.{filter-in, range-in, range-once}
+use Rattle.cycle_encoding.proofs.Unshown.{hidden, one-side, shown-within}
 use Rattle.order_encoding.proofs.Says.{SaysMemory, SaysGuard, entry-out, memory-out, kept-out, last-out, branch-out, wait-out, come-out}
 use Rattle.order_encoding.proofs.Sound.{keeps, one_branch}
 use Rattle.order_encoding.proofs.OrderSays.{SaysPins, over-out, pins-out, late-out, pool-out}
+use Rattle.order_encoding.proofs.LiveListing.{needs-once, pooled-once, pooled-by}
+use Rattle.order_encoding.proofs.LiveSays.{SaysLive, needs-out, earlier-out, holds-out, alone-out}
+use Rattle.order_encoding.proofs.LiveSays.{last-out as last-needs-out}
+use Rattle.order_encoding.proofs.LiveSound.{live_room, loads_may}
 use Rattle.order_encoding.proofs.OrderSound.{over_known, all_reached, all_wait, pool_in, fits_with_pins}
 
 when-over : (b : Bool) (P : List Lit → Type 0) (cs : List (List Lit)) → All P cs → All P (when b cs)
@@ -45,10 +57,10 @@ abbrev pub SayPinnedRules : LaunchGraph → Table → ℕ → Listed → Type 0
 SayPinnedRules g table k e =
     (v : ℕ → Bool) → Satisfies v (cycle_formula g table k e).clauses
     → ArePinsKept g k (shown v (launch_vars e)) (shown v (overwritten_vars g table k e))
-    → KeepsCycleRules g table k (shown v (launch_vars e))
+    → KeepsCycleRules g table e.allocation k (shown v (launch_vars e))
 
-abbrev pub HavePinnedPlaces : LaunchGraph → Table → ℕ → Type 0
-HavePinnedPlaces g table k = (ls : List Launch) → KeepsCycleRules g table k ls → All (HasPlace table k) ls
+abbrev pub HavePinnedPlaces : LaunchGraph → Table → Allocation → ℕ → Type 0
+HavePinnedPlaces g table a k = (ls : List Launch) → KeepsCycleRules g table a k ls → All (HasPlace table k) ls
 
 module _ (g : LaunchGraph) (table : Table) (k : ℕ) (e : Listed) where
   abbrev xs : List (ℕ × Launch)
@@ -74,10 +86,15 @@ module _ (g : LaunchGraph) (table : Table) (k : ℕ) (e : Listed) where
       All-cons (All (IsLitOf (before_pool g table k e))) (vars_of any (taken_vars g table k e)) []
       (vars-over any (after_guard g table k e) (before_pool g table k e) (all_taken table k) (omega arith)) (All-nil (All (IsLitOf (before_pool g table k e))))
 
+  pub holds-over : AreOver (before_counts g table k e) (hold_groups k (hold_vars g table k e))
+  holds-over =
+      All-map (All (IsLitOf (before_counts g table k e))) (λ t. vars_of (λ (x : Hold). x.cycle == t) (hold_vars g table k e)) (range_with_len 0 k)
+      (λ j c len. vars-over (λ (x : Hold). x.cycle == (get_or (range_with_len 0 k) j c)) (before_holds g table k e) (before_counts g table k e) (all_holds table k) (omega arith))
+
   pub pins-over : AreOver (after_pool g table k e) (pin_groups g xs)
   pins-over =
       All-map (All (IsLitOf (after_pool g table k e))) (λ j. vars_of (goes_to j) xs) (pinned_sets g)
-      (λ i d lt. vars-over (goes_to (get_or (pinned_sets g) i d)) 0 (after_pool g table k e) e.launches (omega arith))
+      (λ i d lt. vars-over (goes_to (get_or (pinned_sets g) i d)) 0 (after_pool g table k e) e.launches (let up = pool-up g table k e in omega arith))
 
   -- ---- what the groups' counts say of the launches
 
@@ -120,14 +137,63 @@ module _ (g : LaunchGraph) (table : Table) (k : ℕ) (e : Listed) where
     pins-few h j r w =
         few-out v (goes_to j) xs 1 (All-contains (λ j. count_true v (vars_of (goes_to j) xs) ≤ 1) (pinned_sets g) j (All-unmap (λ c. count_true v c ≤ 1) (λ j. vars_of (goes_to j) xs) (pinned_sets g) h) (pinned_here j r w))
 
+  -- ---- registers
+
+  module _ (exact : AreExact) (is_graph : IsLaunchGraph g) (v : ℕ → Bool) (alone : AllPairs (λ l m. ¬ Collide l m) (S v)) (below : All (λ l. l.cycle < k) (S v))
+      (over : (o : Overwritten) → is_overwriting g o.set ≡ true → o.cycle ≤ k → WasOverwritten (S v) o → Contains (shown v (overwritten_vars g table k e)) o) where
+    registers-out : Satisfies v (registers_part g table k e) → HasRoom g Block k (S v)
+    registers-out h =
+        let us = taken_vars g table k e in
+        let c15 = pool_clauses g xs us in
+        let c16 = counters (before_pool g table k e) (length g.pool) (register_groups us) in
+        let taken = pool-out g table k v xs us (left v c15 c16 h) in
+        let few16 = counters-out exact (length g.pool) (before_pool g table k e) (before_pool g table k e) v (register_groups us) (omega arith) pinned-pool-over (right v c15 c16 h) in
+        let pooled : count_by any (shown v us) ≤ length g.pool = few-out v any us (length g.pool) (All-head (λ c. count_true v c ≤ length g.pool) (vars_of any us) [] few16) in
+        pool_in g table k (S v) (shown v us) taken pooled alone
+
+    live-out : Satisfies v (live_part g table k e) → HasRoom g Live k (S v)
+    live-out h =
+        let vs = overwritten_vars g table k e in
+        let ns = need_vars g table k e in
+        let hs = hold_vars g table k e in
+        let a = need_clauses g xs ns in
+        let b = earlier_clauses ns in
+        let c = live.last_clauses g k xs ns vs in
+        let d = hold_clauses g k xs ns hs in
+        let n = before_counts g table k e in
+        let f = counters n (length g.pool) (hold_groups k hs) in
+        let h4 = left v (a ++ b ++ c ++ d) f h in
+        let h3 = left v (a ++ b ++ c) d h4 in
+        let h2 = left v (a ++ b) c h3 in
+        let held = holds-out g k xs v ns hs (right v (a ++ b ++ c) d h4) in
+        let says : SaysLive g k xs (S v) (shown v ns) (hidden v ns) (shown v hs) (hidden v vs) = record {
+          needs = needs-out g k xs v ns (left v a b h2);
+          earlier = earlier-out g k xs v ns (right v a b h2);
+          last = last-needs-out g k xs v ns vs (right v (a ++ b) c h3);
+          own = held.0;
+          on = held.1;
+        } in
+        let few = counters-out exact (length g.pool) n n v (hold_groups k hs) (omega arith) holds-over (right v (a ++ b ++ c ++ d) f h) in
+        live_room g k xs (S v) (shown v ns) (hidden v ns) (shown v hs) (hidden v vs) (shown v vs) says
+        (λ l hl takes. pooled-by g 0 e.launches l (shown-within v 0 e.launches l hl) takes)
+        (λ x p q. one-side v (after_guard g table k e) (all_needs k (pooled_classes g xs)) (needs-once k (pooled_classes g xs) (pooled-once g xs)) x p q)
+        is_graph.own_pins over
+        (λ x p q. one-side v (before_overwritten e) (all_overwritten g k) (over-once g table k) x p q)
+        below
+        (λ t lt. few-out v (λ (x : Hold). x.cycle == t) hs (length g.pool) (at_range (λ t. count_true v (vars_of (λ (x : Hold). x.cycle == t) hs) ≤ length g.pool) k (All-unmap (λ c. count_true v c ≤ length g.pool) (λ t. vars_of (λ (x : Hold). x.cycle == t) hs) (range_with_len 0 k) few) t lt))
+        alone
+
+    room-of : (a : Allocation) → Satisfies v (pool_part_of g table k e a) → HasRoom g a k (S v)
+    room-of Block h = registers-out h
+    room-of Live h = live-out h
+
   -- ---- the whole
 
-  pub fits : AreExact → SayPinnedRules g table k e → HavePinnedPlaces g table k → (v : ℕ → Bool) → Satisfies v (whole_formula g table k e).clauses → Fits g table k (shown v xs)
-  fits exact cycles places v h =
+  pub fits : AreExact → IsLaunchGraph g → SayPinnedRules g table k e → HavePinnedPlaces g table e.allocation k → (v : ℕ → Bool) → Satisfies v (pins_formula g table k e).clauses → Fits g table e.allocation k (shown v xs)
+  fits exact is_graph cycles places v h =
       let ms = held_vars g table k e in
       let ws = store_vars g table k e in
       let bs = come_vars g table k e in
-      let us = taken_vars g table k e in
       let c5 = entry_clauses g ms in
       let c6 = memory_clauses g xs ms ws in
       let c7 = kept_clauses g k xs ms ws in
@@ -137,8 +203,6 @@ module _ (g : LaunchGraph) (table : Table) (k : ℕ) (e : Listed) where
       let c12 = counters (before_branch g table k e) 1 (branch_groups g xs) in
       let c13 = wait_clauses g xs bs in
       let c14 = come_clauses g xs bs in
-      let c15 = pool_clauses g xs us in
-      let c16 = counters (before_pool g table k e) (length g.pool) (register_groups us) in
       let p1 = cycle_part g table k e in
       let p2 = memory_part g table k e in
       let p3 = guard_part g table k e in
@@ -149,15 +213,18 @@ module _ (g : LaunchGraph) (table : Table) (k : ℕ) (e : Listed) where
       let c18 = counters (after_pool g table k e) 1 (pin_groups g xs) in
       let c19 = pin_clauses g xs in
       let c20 = late_clauses g xs bs in
-      let h4 = left v (p1 ++ p2 ++ p3 ++ p4) p5 h in
-      let q5 = right v (p1 ++ p2 ++ p3 ++ p4) p5 h in
+      let c22 = load_clauses g xs ws in
+      let all = (pool_formula g table k e).clauses in
+      let h4 : Satisfies v (p1 ++ p2 ++ p3 ++ p4) = subst (Satisfies v) (pool-clauses g table k e) (left v all p5 h) in
+      let q5 = right v all p5 h in
       let h3 = left v (p1 ++ p2 ++ p3) p4 h4 in
       let h2 = left v (p1 ++ p2) p3 h3 in
       let q1 = left v p1 p2 h2 in
       let q2 = right v p1 p2 h2 in
       let q3 = right v (p1 ++ p2) p3 h3 in
       let q4 = right v (p1 ++ p2 ++ p3) p4 h4 in
-      let q171819 = left v (c17 ++ c18 ++ c19) c20 q5 in
+      let q1720 = left v (c17 ++ c18 ++ c19 ++ c20) c22 q5 in
+      let q171819 = left v (c17 ++ c18 ++ c19) c20 q1720 in
       let q1718 = left v (c17 ++ c18) c19 q171819 in
       let overs = over-out g table k v xs vs (left v c17 c18 q1718) in
       let pins : SaysPins g table k (shown v xs) (shown v vs) = record {
@@ -165,13 +232,14 @@ module _ (g : LaunchGraph) (table : Table) (k : ℕ) (e : Listed) where
         on = overs.1;
         some = pins-out g table k v xs (right v (c17 ++ c18) c19 q171819);
       } in
-      let late = late-out g table k v xs bs (right v (c17 ++ c18 ++ c19) c20 q5) in
+      let late = late-out g table k v xs bs (right v (c17 ++ c18 ++ c19) c20 q1720) in
+      let apart22 = alone-out g k xs v ws (right v (c17 ++ c18 ++ c19 ++ c20) c22 q5) in
       let few18 = pins-few v (counters-out exact 1 (after_pool g table k e) (after_pool g table k e) v (pin_groups g xs) (omega arith) pins-over (right v c17 c18 q1718)) in
       let pinned : ArePinsKept g k (shown v xs) (shown v vs) = record {
         few = few18;
         over = over_known g table k (shown v xs) (shown v vs) pins;
       } in
-      let rules : KeepsCycleRules g table k (shown v xs) = cycles v q1 pinned in
+      let rules : KeepsCycleRules g table e.allocation k (shown v xs) = cycles v q1 pinned in
       let placed = places (shown v xs) rules in
       let below : All (λ l. l.cycle < k) (shown v xs) = λ i d lt. (placed i d lt).1 in
       let q5678 = left v (c5 ++ c6 ++ c7 ++ c8) c10 q2 in
@@ -198,12 +266,10 @@ module _ (g : LaunchGraph) (table : Table) (k : ℕ) (e : Listed) where
         come = come-out g table k v xs bs (right v (c11 ++ c12 ++ c13) c14 q3);
       } in
       let few12 = branch-few v (counters-out exact 1 (before_branch g table k e) (before_branch g table k e) v (branch_groups g xs) (omega arith) pinned-branch-over (right v c11 c12 q1112)) in
-      let taken = pool-out g table k v xs us (left v c15 c16 q4) in
-      let few16 = counters-out exact (length g.pool) (before_pool g table k e) (before_pool g table k e) v (register_groups us) (omega arith) pinned-pool-over (right v c15 c16 q4) in
-      let pooled : count_by any (shown v us) ≤ length g.pool = few-out v any us (length g.pool) (All-head (λ c. count_true v c ≤ length g.pool) (vars_of any us) [] few16) in
-      fits_with_pins g table k (shown v xs) rules
+      fits_with_pins g table k (shown v xs) e.allocation rules
+      (λ l hl load o live. loads_may g k xs (shown v xs) (shown v ws) (hidden v ws) (λ t p q. one-side v (before_stores g table k e) (range_with_len 0 k) (range-once 0 k) t p q) (λ i d lt s. (used.1 i d lt s).1) apart22 e.allocation l hl load o live)
       (all_reached g table k (shown v xs) few18 pins.some rules.targets)
       (keeps g table k (shown v xs) below (shown v ms) (shown v ws) memories (held-few v few8) (stores-few v few8))
       (one_branch g table k (shown v xs) below (shown v bs) guards few12)
       (all_wait g table k (shown v xs) (shown v bs) guards late few12)
-      (pool_in g table k (shown v xs) (shown v us) taken pooled rules.apart)
+      (room-of exact is_graph v rules.apart below pinned.over e.allocation q4)

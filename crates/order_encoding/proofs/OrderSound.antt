@@ -10,8 +10,10 @@ use Rattle.std.proofs.lemmas.List.Sums.{sum_by-le}
 use Rattle.std.proofs.lemmas.List.Elements.{All-contains, Contains-get_or}
 use Rattle.graph_meaning.specs.Graphs.{is_memory_name, is_input_register}
 use Rattle.schedule_meaning.specs.Launches.{launches, is_store, is_load, is_branch, is_held, HasInput, pin_of, goes_to, overwrites, takes_pool}
-use Rattle.schedule_meaning.specs.Fits.{Collide, IsWhereWanted, AreReached, KeepsMemory, HasOneBranch, Waits, Fits}
+use Rattle.schedule_meaning.specs.Fits.{MayLoadOver, Collide, HasRoom, IsWhereWanted, AreReached, KeepsMemory, HasOneBranch, Waits, Fits}
 use Rattle.schedule_meaning.specs.declared.schedules.To.TheVariants.{Set}
+use Rattle.schedule_meaning.specs.declared.schedules.Allocation.{Allocation}
+use Rattle.schedule_meaning.specs.declared.schedules.Allocation.TheVariants.{Live}
 use Rattle.schedule_meaning.specs.declared.schedules.Launch.{Launch}
 use Rattle.schedule_meaning.proofs.Rules.{at_each, in_list}
 use Rattle.schedule_meaning.proofs.Pins.{pinned_from}
@@ -30,6 +32,7 @@ use Rattle.cycle_encoding.proofs.PinnedTests.{at-is}
 use Rattle.cycle_encoding.proofs.Members.{filter-in, range-in}
 use Rattle.cycle_encoding.proofs.Counting.{count-one, count-none, count-any, count-by-places}
 use Rattle.cycle_encoding.proofs.MadeLists.{at_range}
+use Rattle.order_encoding.proofs.Destinations.{can_go}
 use Rattle.order_encoding.proofs.Says.{SaysGuard}
 use Rattle.order_encoding.proofs.OrderSays.{SaysPins, SaysLate, SaysPool}
 
@@ -191,10 +194,11 @@ module _ (g : LaunchGraph) (table : Table) (k : ℕ) (S : List Launch) where
         let c = count-any U in
         omega arith
 
-  pub fits_with_pins : KeepsCycleRules g table k S → AreReached g S → KeepsMemory g S → HasOneBranch g S → All (Waits g S) S → count_by (takes_pool g) S ≤ length g.pool → Fits g table k S
-  fits_with_pins rules targets memory branch after pool = record {
+  pub fits_with_pins : (a : Allocation) → KeepsCycleRules g table a k S → ((l : Launch) → Contains S l → IsTrue (launches g is_load l) → IsTrue (overwrites g l) → a ≡ Live → MayLoadOver g a S l)
+      → AreReached g S → KeepsMemory g S → HasOneBranch g S → All (Waits g S) S → HasRoom g a k S → Fits g table a k S
+  fits_with_pins a rules loads targets memory branch after pool = record {
     rows = rules.rows;
-    destinations = rules.destinations;
+    destinations = λ i d lt. can_go g a S (get_or S i d) (loads (get_or S i d) (Contains-get_or S i d lt)) (rules.destinations i d lt);
     apart = rules.apart;
     operands = rules.operands;
     in_time = rules.in_time;

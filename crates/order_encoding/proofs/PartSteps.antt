@@ -1,16 +1,21 @@
 -- What one part adds to the formula of the parts before it.
-use Rattle.std.proofs.Common.{◌≡◌, ◌+◌, ◌≤◌, ◌∙◌, ℕ, length, sym, ap, subst}
+use Rattle.std.proofs.Common.{◌≡◌, ◌+◌, ◌≤◌, ◌∙◌, ℕ, length, length-append, sym, ap, subst}
 use Rattle.cycle_encoding.specs.Limits.{most_vars, most_clauses}
 use Rattle.cnf_core.specs.Formula.{Formula}
 use Rattle.machine_table.specs.declared.tables.Table.{Table}
 use Rattle.graph_meaning.specs.declared.graphs.LaunchGraph.{LaunchGraph}
-use Rattle.cycle_encoding.specs.CycleFormula.{Listed, Scope, cycle_formula, listed_in}
+use Rattle.cycle_encoding.specs.CycleFormula.{Listed, Scope, allocation_in, cycle_formula, listed_in}
 use Rattle.cycle_encoding.specs.Plans.{IsTooLarge}
-use Rattle.order_encoding.specs.OrderCounts.{guard_size, guard_vars, memory_size, memory_vars, part_size, part_vars, pins_size, pins_vars, registers_size, registers_vars}
-use Rattle.order_encoding.specs.WholeFormula.{before_part, guard_formula, memory_formula, pool_formula, whole_formula, with_part}
+use Rattle.order_encoding.specs.OrderCounts.{guard_size, guard_vars, memory_size, memory_vars, part_size, part_vars, pins_size, pins_vars, pool_size, pool_vars}
+use Rattle.order_encoding.specs.WholeFormula.{before_part, guard_formula, memory_formula, pins_formula, pool_formula, whole_formula, with_part}
 use Rattle.order_encoding.specs.declared.adding.Part.{Part}
-use Rattle.order_encoding.specs.declared.adding.Part.TheVariants.{Memory, Guard, Pool, Pins}
+use Rattle.order_encoding.specs.declared.adding.Part.TheVariants.{Memory, Guard, Pool, Pins, Capacity}
+use Rattle.slot_capacity.specs.Limits.{capacity_in}
+use Rattle.slot_capacity.specs.CapacityCounts.{capacity_size, capacity_vars}
+use Rattle.slot_capacity.specs.CapacityClauses.{added_capacity, with_capacity}
+use Rattle.cycle_encoding.specs.Shapes.{numbered}
 use Rattle.order_encoding.proofs.Limits.{within_clauses, within_vars}
+use Rattle.order_encoding.proofs.Parts.{capacity_part}
 
 -- ---- counts
 
@@ -25,25 +30,44 @@ module _ (g : LaunchGraph) (table : Table) (k : ℕ) (s : Scope) where
   module _ (c : ℕ) where
     pub vars_added : vars_of cycle_formula ≡ c → vars_of memory_formula ≡ c + memory_vars g table k s
         → vars_of guard_formula ≡ c + memory_vars g table k s + guard_vars g table k s
-        → vars_of pool_formula ≡ c + memory_vars g table k s + guard_vars g table k s + registers_vars g table k s
+        → vars_of pool_formula ≡ c + memory_vars g table k s + guard_vars g table k s + pool_vars g table k s (allocation_in s)
+        → vars_of pins_formula
+        ≡ c + memory_vars g table k s + guard_vars g table k s + pool_vars g table k s (allocation_in s) + pins_vars g table k s
         → vars_of whole_formula
-        ≡ c + memory_vars g table k s + guard_vars g table k s + registers_vars g table k s + pins_vars g table k s
+        ≡ c + memory_vars g table k s + guard_vars g table k s + pool_vars g table k s (allocation_in s) + pins_vars g table k s + capacity_vars g table k s (capacity_in s g table k)
         → (p : Part) → vars_of (with_part p) ≡ vars_of (before_part p) + part_vars p g table k s
-    vars_added e m d r w Memory = m ∙ ap (λ n. n + memory_vars g table k s) (sym e)
-    vars_added e m d r w Guard = d ∙ ap (λ n. n + guard_vars g table k s) (sym m)
-    vars_added e m d r w Pool = r ∙ ap (λ n. n + registers_vars g table k s) (sym d)
-    vars_added e m d r w Pins = w ∙ ap (λ n. n + pins_vars g table k s) (sym r)
+    vars_added e m d r w x Memory = m ∙ ap (λ n. n + memory_vars g table k s) (sym e)
+    vars_added e m d r w x Guard = d ∙ ap (λ n. n + guard_vars g table k s) (sym m)
+    vars_added e m d r w x Pool = r ∙ ap (λ n. n + pool_vars g table k s (allocation_in s)) (sym d)
+    vars_added e m d r w x Pins = w ∙ ap (λ n. n + pins_vars g table k s) (sym r)
+    vars_added e m d r w x Capacity = x ∙ ap (λ n. n + capacity_vars g table k s (capacity_in s g table k)) (sym w)
 
     pub size_added : size_of cycle_formula ≡ c → size_of memory_formula ≡ c + memory_size g table k s
         → size_of guard_formula ≡ c + memory_size g table k s + guard_size g table k s
-        → size_of pool_formula ≡ c + memory_size g table k s + guard_size g table k s + registers_size g table k s
+        → size_of pool_formula ≡ c + memory_size g table k s + guard_size g table k s + pool_size g table k s (allocation_in s)
+        → size_of pins_formula
+        ≡ c + memory_size g table k s + guard_size g table k s + pool_size g table k s (allocation_in s) + pins_size g table k s
         → size_of whole_formula
-        ≡ c + memory_size g table k s + guard_size g table k s + registers_size g table k s + pins_size g table k s
+        ≡ c + memory_size g table k s + guard_size g table k s + pool_size g table k s (allocation_in s) + pins_size g table k s + capacity_size g table k s (capacity_in s g table k)
         → (p : Part) → size_of (with_part p) ≡ size_of (before_part p) + part_size p g table k s
-    size_added e m d r w Memory = m ∙ ap (λ n. n + memory_size g table k s) (sym e)
-    size_added e m d r w Guard = d ∙ ap (λ n. n + guard_size g table k s) (sym m)
-    size_added e m d r w Pool = r ∙ ap (λ n. n + registers_size g table k s) (sym d)
-    size_added e m d r w Pins = w ∙ ap (λ n. n + pins_size g table k s) (sym r)
+    size_added e m d r w x Memory = m ∙ ap (λ n. n + memory_size g table k s) (sym e)
+    size_added e m d r w x Guard = d ∙ ap (λ n. n + guard_size g table k s) (sym m)
+    size_added e m d r w x Pool = r ∙ ap (λ n. n + pool_size g table k s (allocation_in s)) (sym d)
+    size_added e m d r w x Pins = w ∙ ap (λ n. n + pins_size g table k s) (sym r)
+    size_added e m d r w x Capacity = x ∙ ap (λ n. n + capacity_size g table k s (capacity_in s g table k)) (sym w)
+
+  -- with capacity
+  abbrev pins_now : Formula
+  pins_now = pins_formula g table k (listed_in g table k s)
+
+  pub all-vars : ((f : Formula) → (with_capacity g (capacity_in s g table k) (numbered 0 (listed_in g table k s).launches) f).vars ≡ f.vars + capacity_vars g table k s (capacity_in s g table k)) → (n : ℕ) → pins_now.vars ≡ n → vars_of whole_formula ≡ n + capacity_vars g table k s (capacity_in s g table k)
+  all-vars counted n e = counted pins_now ∙ ap (λ m. m + capacity_vars g table k s (capacity_in s g table k)) e
+
+  pub all-size : ((f : Formula) → length (added_capacity g (capacity_in s g table k) (numbered 0 (listed_in g table k s).launches) f) ≡ capacity_size g table k s (capacity_in s g table k)) → (n : ℕ) → length pins_now.clauses ≡ n → size_of whole_formula ≡ n + capacity_size g table k s (capacity_in s g table k)
+  all-size counted n e =
+      length-append pins_now.clauses (capacity_part g table k (listed_in g table k s))
+      ∙ ap (λ m. m + length (capacity_part g table k (listed_in g table k s))) e
+      ∙ ap (λ m. n + m) (counted pins_now)
 
 -- ---- one part by its name
 

@@ -1,5 +1,7 @@
 pub mod OrderVariables
 pub mod OrderFamilies
+pub mod LiveVariables
+pub mod LiveFamilies
 pub mod WholeFormula
 pub mod OrderSteps
 pub mod OrderCounts

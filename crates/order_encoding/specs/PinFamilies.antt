@@ -6,9 +6,9 @@ use Rattle.std.specs.Option.{option_map_or}
 use Rattle.std.specs.List.{filter, flat_map, range_with_len}
 use Rattle.cnf_core.specs.declared.literal.Lit.{Lit}
 use Rattle.graph_meaning.specs.declared.graphs.LaunchGraph.{LaunchGraph}
-use Rattle.schedule_meaning.specs.Launches.{goes_to, overwrites, takes_pool}
+use Rattle.schedule_meaning.specs.Launches.{goes_to, is_load, launches, overwrites, takes_pool}
 use Rattle.schedule_meaning.specs.declared.schedules.Launch.{Launch}
-use Rattle.cycle_encoding.specs.Shapes.{vars_of, implied, when}
+use Rattle.cycle_encoding.specs.Shapes.{vars_of, implied, negated, when}
 use Rattle.cycle_encoding.specs.Variables.{pinned_sets, overwriting_sets, Overwritten}
 use Rattle.cycle_encoding.specs.Families.{takes_input}
 use Rattle.order_encoding.specs.OrderVariables.{Taken}
@@ -72,3 +72,12 @@ overwrites_after g bs l = when (overwrites g l) (vars_of (λ t. t == l.cycle) bs
 -- 20: each launch that overwrites does
 abbrev pub late_clauses : LaunchGraph → List (ℕ × Launch) → List (ℕ × ℕ) → List (List Lit)
 late_clauses g xs bs = when (is_some g.guard) (implied xs (overwrites_after g bs))
+
+-- a load that overwrites an input's register launches in no store's cycle: ws are the cycles in which there is a store
+abbrev pub loads_alone : LaunchGraph → List (ℕ × ℕ) → Launch → List (List Lit)
+loads_alone g ws l =
+    when (launches g is_load l && overwrites g l) (negated (λ t. t == l.cycle) ws ∷ [])
+
+-- 22: each such load does
+abbrev pub load_clauses : LaunchGraph → List (ℕ × Launch) → List (ℕ × ℕ) → List (List Lit)
+load_clauses g xs ws = implied xs (loads_alone g ws)

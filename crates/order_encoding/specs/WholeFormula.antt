@@ -7,6 +7,8 @@ use Rattle.cnf_core.specs.declared.literal.Lit.{Lit}
 use Rattle.cnf_core.specs.Formula.{Formula}
 use Rattle.machine_table.specs.declared.tables.Table.{Table}
 use Rattle.graph_meaning.specs.declared.graphs.LaunchGraph.{LaunchGraph}
+use Rattle.schedule_meaning.specs.declared.schedules.Allocation.{Allocation}
+use Rattle.schedule_meaning.specs.declared.schedules.Allocation.TheVariants.{Block, Live}
 use Rattle.schedule_meaning.specs.declared.schedules.Launch.{Launch}
 use Rattle.cycle_encoding.specs.Shapes.{numbered, counters, counters_vars, when}
 use Rattle.cycle_encoding.specs.Encodings.{AreListed}
@@ -19,12 +21,18 @@ use Rattle.cycle_encoding.specs.declared.plans.EncodeFault.TheVariants as faults
 use Rattle.cycle_encoding.specs.CycleFormula.{overwritten_vars, cycle_formula}
 use Rattle.cycle_encoding.specs.CycleFormula.{listed_in}
 use Rattle.order_encoding.specs.declared.adding.Part.{Part}
-use Rattle.order_encoding.specs.declared.adding.Part.TheVariants.{Memory, Guard, Pool, Pins}
+use Rattle.order_encoding.specs.declared.adding.Part.TheVariants.{Memory, Guard, Pool, Pins, Capacity}
 use Rattle.order_encoding.specs.OrderVariables.{all_held, all_taken, Held, Taken}
 use Rattle.order_encoding.specs.OrderFamilies.{entry_clauses, memory_clauses, kept_clauses, held_groups}
 use Rattle.order_encoding.specs.OrderFamilies.{store_groups, last_clauses, branch_clauses, branch_groups}
 use Rattle.order_encoding.specs.OrderFamilies.{wait_clauses, come_clauses, register_groups}
 use Rattle.order_encoding.specs.PinFamilies.{pool_clauses, overwritten_clauses, pin_groups, pin_clauses, late_clauses}
+use Rattle.order_encoding.specs.PinFamilies.{load_clauses}
+use Rattle.order_encoding.specs.LiveVariables.{Hold, Need, all_holds, all_needs, pooled_classes}
+use Rattle.order_encoding.specs.LiveFamilies as live
+use Rattle.order_encoding.specs.LiveFamilies.{need_clauses, earlier_clauses, hold_clauses, hold_groups}
+use Rattle.slot_capacity.specs.Limits.{capacity_of}
+use Rattle.slot_capacity.specs.CapacityClauses.{with_capacity}
 
 -- ---- a formula f with a part more: xs are the launches with their variables, and each kind of new variables begins
 -- after the last one before it
@@ -100,15 +108,51 @@ module _ (g : LaunchGraph) (k : ℕ) (xs : List (ℕ × Launch)) (f : Formula) w
       clauses = f.clauses ++ added_registers;
     }
 
-  -- pins: vs is what is overwritten, bs the cycles by which the branch was launched, with variables that stand before
+  -- registers by live ranges: vs is what is overwritten, with variables that stand before
 
-  module _ (vs : List (ℕ × Overwritten)) (bs : List (ℕ × ℕ)) where
+  module _ (table : Table) (vs : List (ℕ × Overwritten)) where
+    abbrev pub new_needs : List (ℕ × Need)
+    new_needs = numbered f.vars (all_needs k (pooled_classes g xs))
+
+    abbrev pub before_new_holds : ℕ
+    before_new_holds = f.vars + length (all_needs k (pooled_classes g xs))
+
+    abbrev pub new_holds : List (ℕ × Hold)
+    new_holds = numbered before_new_holds (all_holds table k)
+
+    abbrev pub before_hold_groups : ℕ
+    before_hold_groups = before_new_holds + length (all_holds table k)
+
+    abbrev pub added_live_ranges : List (List Lit)
+    added_live_ranges =
+        need_clauses g xs new_needs
+        ++ earlier_clauses new_needs
+        ++ live.last_clauses g k xs new_needs vs
+        ++ hold_clauses g k xs new_needs new_holds
+        ++ counters before_hold_groups (length g.pool) (hold_groups k new_holds)
+
+    abbrev pub formula_with_live_ranges : Formula
+    formula_with_live_ranges = record {
+      vars = before_hold_groups + counters_vars (length g.pool) (hold_groups k new_holds);
+      clauses = f.clauses ++ added_live_ranges;
+    }
+
+    -- the one or the other
+    abbrev pub formula_with_pool : Allocation → Formula
+    formula_with_pool Block = formula_with_registers table
+    formula_with_pool Live = formula_with_live_ranges
+
+  -- pins: vs is what is overwritten, bs the cycles by which the branch was launched, ws the cycles in which there is a
+  -- store, with variables that stand before
+
+  module _ (vs : List (ℕ × Overwritten)) (bs ws : List (ℕ × ℕ)) where
     abbrev pub added_pins : List (List Lit)
     added_pins =
         overwritten_clauses g k xs vs
         ++ counters f.vars 1 (pin_groups g xs)
         ++ pin_clauses g xs
         ++ late_clauses g xs bs
+        ++ load_clauses g xs ws
 
     abbrev pub formula_with_pins : Formula
     formula_with_pins = record { vars = f.vars + counters_vars 1 (pin_groups g xs); clauses = f.clauses ++ added_pins }
@@ -123,15 +167,24 @@ module _ (g : LaunchGraph) (table : Table) (k : ℕ) (e : Listed) where
   guard_formula = formula_with_guard g k (launch_vars e) memory_formula
 
   abbrev pub pool_formula : Formula
-  pool_formula = formula_with_registers g k (launch_vars e) guard_formula table
+  pool_formula =
+      formula_with_pool g k (launch_vars e) guard_formula table (overwritten_vars g table k e) e.allocation
 
-  -- the cycles by which the branch was launched have the first variables behind those of memory
+  -- the cycles by which the branch was launched have the first variables behind those of memory, in which those of
+  -- cycles with a store come behind what is held
   abbrev pub branch_vars : List (ℕ × ℕ)
   branch_vars = new_come g k (launch_vars e) memory_formula
 
+  abbrev pub store_cycle_vars : List (ℕ × ℕ)
+  store_cycle_vars = new_stores g k (launch_vars e) (cycle_formula g table k e)
+
+  abbrev pub pins_formula : Formula
+  pins_formula =
+      formula_with_pins g k (launch_vars e) pool_formula (overwritten_vars g table k e) branch_vars store_cycle_vars
+
   abbrev pub whole_formula : Formula
   whole_formula =
-      formula_with_pins g k (launch_vars e) pool_formula (overwritten_vars g table k e) branch_vars
+      with_capacity g (capacity_of g table e.allocation k e.launches) (launch_vars e) pins_formula
 
 -- ---- the parts behind that of cycles, slots and values
 
@@ -141,16 +194,19 @@ before_part Memory = cycle_formula
 before_part Guard = memory_formula
 before_part Pool = guard_formula
 before_part Pins = pool_formula
+before_part Capacity = pins_formula
 
 -- and with this one
 abbrev pub with_part : Part → LaunchGraph → Table → ℕ → Listed → Formula
 with_part Memory = memory_formula
 with_part Guard = guard_formula
 with_part Pool = pool_formula
-with_part Pins = whole_formula
+with_part Pins = pins_formula
+with_part Capacity = whole_formula
 
--- pins speak of what is overwritten: this many variables come before those of it
+-- registers and pins speak of what is overwritten: this many variables come before those of it
 abbrev pub KnowsOverwritten : Part → ℕ → Listed → Type 0
+KnowsOverwritten Pool before l = before ≡ before_overwritten l
 KnowsOverwritten Pins before l = before ≡ before_overwritten l
 KnowsOverwritten _ before l = Unit {0}
 

@@ -18,16 +18,20 @@ mod counts;
 mod cycles;
 mod guard;
 mod held;
+mod holds;
 mod kinds;
 mod laws;
+mod live_counts;
+mod live_ranges;
 mod memory;
+mod needs;
 mod pin_counts;
 mod pins;
 mod pool;
 mod sizes;
 mod whole;
 
-pub use adding::{add_guard, add_memory, add_pins, add_pool};
+pub use adding::{add_capacity, add_guard, add_memory, add_pins, add_pool};
 pub use laws::{
     clauses_say_fits, counts_are_found, each_encoding_says_fits, launches_without_variables_may_go,
     parts_are_counted, worked_formulas, worked_pinned_formulas,

@@ -1,12 +1,12 @@
 // The counts of pins, found row by row before any clause is.
-ghost use Rattle.std.specs.Prelude.{◌≡◌, ◌+◌, ◌*◌, ◌<◌, ◌≤◌, ◌^◌, length};
+ghost use Rattle.std.specs.Prelude.{◌≡◌, ◌+◌, ◌*◌, ◌<◌, ◌≤◌, ◌^◌, ◌&&◌, length};
 ghost use Rattle.std.specs.List.{sum_by};
 ghost use Rattle.schedule_meaning.specs.Limits.{most_cycles};
 ghost use Rattle.cnf_core.specs.Counter as counter;
 ghost use Rattle.machine_table.specs.Tables.{IsTable};
 ghost use Rattle.schedule_meaning.specs.Launches as launches;
 ghost use Rattle.cycle_encoding.specs.Counts as cycle_counts;
-ghost use Rattle.cycle_encoding.specs.Counts.{one_if};
+ghost use Rattle.cycle_encoding.specs.Counts.{one_if, row_is};
 ghost use Rattle.cycle_encoding.specs.Counts.{row_destinations};
 ghost use Rattle.cycle_encoding.specs.Variables as variables;
 ghost use Rattle.order_encoding.specs.PinFamilies as families;
@@ -17,6 +17,7 @@ use cycle_encoding::{
     Facts, Scope, Sizes, goes, is_overwriting, late, one_size, one_vars, row_count, takes_input,
 };
 use machine_table::Table;
+use schedule_meaning::{Allocation, is_load};
 
 /// How many launches go to a set.
 #[tactic(auto, using(crate::proofs::CountSteps::sum_more))]
@@ -29,7 +30,7 @@ fn goes_count(facts: &Facts, table: &Table, scope: &Scope, k: u32, set: u32) -> 
 {
     let mut count = 0;
     for row in 0..facts.row_numbers() {
-        count += row_count(facts, table, scope, k, row) * goes(facts, row, set);
+        count += row_count(facts, table, scope, k, row) * goes(facts, scope.allocation(), row, set);
     }
     count
 }
@@ -45,9 +46,40 @@ fn late_count(facts: &Facts, table: &Table, scope: &Scope, k: u32) -> u64
 {
     let mut count = 0;
     for row in 0..facts.row_numbers() {
-        count += row_count(facts, table, scope, k, row) * late(facts, row);
+        count += row_count(facts, table, scope, k, row) * late(facts, scope.allocation(), row);
     }
     count
+}
+
+/// How many loads overwrite an input's register.
+#[tactic(auto, using(crate::proofs::CountSteps::sum_more))]
+fn over_load_count(facts: &Facts, table: &Table, scope: &Scope, k: u32) -> u64
+    requires table { IsTable table.now }
+    requires cycles { k ≤ most_cycles }
+    requires rows { length facts.now.rows < 2 ^ 30 }
+    ensures value { result ≡ counts.over_load_count facts.now table.now k scope.now }
+    ensures few { result < 2 ^ 45 }
+{
+    let mut count = 0;
+    for row in 0..facts.row_numbers() {
+        count += row_count(facts, table, scope, k, row)
+            * over_loads(facts, scope.allocation(), row);
+    }
+    count
+}
+
+/// How many destinations of a row overwrite an input's register, if it is a load.
+fn over_loads(facts: &Facts, allocation: Allocation, row: u32) -> u64
+    ensures value { result
+        ≡ sum_by (λ to. one_if (row_is facts.now launches.is_load row && counts.overwrites_at facts.now to))
+        (row_destinations facts.now allocation row) }
+    ensures few { result ≤ 31 }
+{
+    if is_load(facts.instr_at(row)) {
+        late(facts, allocation, row)
+    } else {
+        0
+    }
 }
 
 /// The counts of one pinned set: its counter, the clauses of what it overwrites, and that a launch goes to it.
@@ -124,6 +156,6 @@ pub fn pins_sizes(facts: &Facts, table: &Table, scope: &Scope, k: u32) -> Sizes
     };
     Sizes {
         vars: sizes.vars,
-        clauses: sizes.clauses + late,
+        clauses: sizes.clauses + late + over_load_count(facts, table, scope, k),
     }
 }

@@ -1,5 +1,5 @@
 // Pins: what launches to pinned sets overwrite, that as many go there as have to, and that they wait for the branch.
-ghost use Rattle.std.specs.Prelude.{◌≡◌, ◌+◌, ◌<◌, ◌≤◌, ◌==◌, ◌^◌, ◌∷◌, [], not, length, map, is_some, option_to_list};
+ghost use Rattle.std.specs.Prelude.{◌≡◌, ◌+◌, ◌<◌, ◌≤◌, ◌==◌, ◌&&◌, ◌^◌, ◌∷◌, [], not, length, map, is_some, option_to_list};
 ghost use Rattle.std.specs.Prelude.{IfOk, OnOk};
 ghost use Rattle.std.specs.List.{range_with_len};
 ghost use Rattle.cycle_encoding.specs.Limits.{most_vars, most_clauses};
@@ -10,17 +10,18 @@ ghost use Rattle.cycle_encoding.specs.Shapes.{implied, numbered, vars_of, when, 
 ghost use Rattle.cycle_encoding.specs.Steps.{of_thing, with_clauses, with_counters};
 ghost use Rattle.order_encoding.specs.PinFamilies as families;
 ghost use Rattle.order_encoding.specs.PinFamilies.{late_clauses, overwritten_clauses, overwrites_after};
-ghost use Rattle.order_encoding.specs.PinFamilies.{pin_clauses, pin_groups};
+ghost use Rattle.order_encoding.specs.PinFamilies.{load_clauses, loads_alone, pin_clauses, pin_groups};
 ghost use Rattle.order_encoding.specs.OrderSteps.{next_in_set, clauses_in_set, stays_in_set};
 ghost use Rattle.order_encoding.specs.WholeFormula.{formula_with_pins};
 
 use crate::cycles::cycle_var;
+use crate::holds::negated_option;
 use crate::kinds::{goes_to, push_var_if};
 use crate::pin_counts::has_own_input;
 use cnf_core::{Cnf, Lit, at_most_one, counters_count};
 use cycle_encoding::{Facts, add_implied, is_overwriting};
 use items::NoMemory;
-use schedule_meaning::{Launch, overwrites};
+use schedule_meaning::{Launch, is_load, overwrites};
 use std::alloc::Global;
 
 // ---- what is overwritten
@@ -55,7 +56,7 @@ fn add_overwritten(
 }
 
 /// How many sets there are.
-fn set_count(facts: &Facts) -> u32
+pub fn set_count(facts: &Facts) -> u32
     requires rows { length facts.now.rows < 2 ^ 30 }
     ensures { result ≡ length facts.now.sets }
 {
@@ -309,10 +310,68 @@ fn add_late_of_guard(
     add_late(cnf, facts, launches, first, k)
 }
 
+// ---- loads that overwrite
+
+/// Adds for each load that overwrites an input's register the clause that no store launches in its cycle. `first` is the
+/// variable before those of cycles with a store.
+fn add_over_loads(
+    cnf: &mut Cnf,
+    facts: &Facts,
+    launches: &[Launch],
+    first: u32,
+    k: u32,
+) -> Result<(), NoMemory>
+    requires launches { length launches.now ≤ first }
+    requires exist { first + k ≤ cnf.old.vars }
+    requires few { cnf.old.vars < 2 ^ 29 }
+    requires room { length cnf.old.clauses
+        + length (load_clauses facts.now (numbered 0 launches.now) (numbered first (range_with_len 0 k))) < 2 ^ 30 }
+    ensures { OnOk result (cnf.new ≡ with_clauses cnf.old
+        (load_clauses facts.now (numbered 0 launches.now) (numbered first (range_with_len 0 k)))) }
+{
+    for (index, launch) in launches.iter().enumerate() {
+        add_over_load(cnf, facts, first, k, index as u32 + 1, *launch)?;
+    }
+    Ok(())
+}
+
+/// Whether the launch is a load that overwrites an input's register.
+fn overwrites_by_load(facts: &Facts, launch: Launch) -> bool
+    ensures { result ≡ (specs.launches facts.now specs.is_load launch && specs.overwrites facts.now launch) }
+{
+    is_load(facts.instr_at(launch.row)) && overwrites(facts.graph(), launch)
+}
+
+/// Adds the clause of one launch, if it is such a load.
+fn add_over_load(
+    cnf: &mut Cnf,
+    facts: &Facts,
+    first: u32,
+    k: u32,
+    var: u32,
+    launch: Launch,
+) -> Result<(), NoMemory>
+    requires var { 1 ≤ var }
+    requires launches { var ≤ first }
+    requires exist { first + k ≤ cnf.old.vars }
+    requires few { cnf.old.vars < 2 ^ 29 }
+    requires room { length cnf.old.clauses
+        + length (loads_alone facts.now (numbered first (range_with_len 0 k)) launch) < 2 ^ 30 }
+    ensures { OnOk result (cnf.new ≡ with_clauses cnf.old
+        (of_thing var (loads_alone facts.now (numbered first (range_with_len 0 k)) launch))) }
+{
+    if !overwrites_by_load(facts, launch) {
+        return Ok(());
+    }
+    let store = negated_option(cycle_var(first, k, launch.cycle));
+    add_implied(cnf, var, store)
+}
+
 // ---- all of them
 
 /// Adds the variables and clauses of pins. The launches have the first variables; `overwritten` is the variable before
-/// those of what is overwritten, and `branches` the one before those of cycles by which the branch has come.
+/// those of what is overwritten, `branches` the one before those of cycles by which the branch has come, and `stores` the
+/// one before those of cycles with a store.
 pub fn extend_by_pins(
     alloc: Global,
     cnf: &mut Cnf,
@@ -321,25 +380,32 @@ pub fn extend_by_pins(
     k: u32,
     overwritten: u32,
     branches: u32,
+    stores: u32,
 ) -> Result<(), NoMemory>
     requires rows { length facts.now.rows < 2 ^ 30 }
     requires cycles { k ≤ most_cycles }
     requires launches { length launches.now ≤ overwritten }
     requires exist { overwritten + length (all_overwritten facts.now k) ≤ branches }
     requires branches { branches + length (when (is_some facts.now.guard) (range_with_len 0 k)) ≤ cnf.old.vars }
+    requires before_stores { length launches.now ≤ stores }
+    requires stores { stores + k ≤ cnf.old.vars }
     requires vars { (formula_with_pins facts.now k (numbered 0 launches.now) cnf.old
         (numbered overwritten (all_overwritten facts.now k))
-        (numbered branches (when (is_some facts.now.guard) (range_with_len 0 k)))).vars ≤ most_vars }
+        (numbered branches (when (is_some facts.now.guard) (range_with_len 0 k)))
+        (numbered stores (range_with_len 0 k))).vars ≤ most_vars }
     requires clauses { length (formula_with_pins facts.now k (numbered 0 launches.now) cnf.old
         (numbered overwritten (all_overwritten facts.now k))
-        (numbered branches (when (is_some facts.now.guard) (range_with_len 0 k)))).clauses ≤ most_clauses }
+        (numbered branches (when (is_some facts.now.guard) (range_with_len 0 k)))
+        (numbered stores (range_with_len 0 k))).clauses ≤ most_clauses }
     ensures { OnOk result (cnf.new ≡ formula_with_pins facts.now k (numbered 0 launches.now) cnf.old
         (numbered overwritten (all_overwritten facts.now k))
-        (numbered branches (when (is_some facts.now.guard) (range_with_len 0 k)))) }
+        (numbered branches (when (is_some facts.now.guard) (range_with_len 0 k)))
+        (numbered stores (range_with_len 0 k))) }
 {
     counters_count();
     add_overwritten(cnf, facts, launches, overwritten, k)?;
     add_pin_counters(alloc, cnf, facts, launches)?;
     add_reached(alloc, cnf, facts, launches)?;
-    add_late_of_guard(cnf, facts, launches, branches, k)
+    add_late_of_guard(cnf, facts, launches, branches, k)?;
+    add_over_loads(cnf, facts, launches, stores, k)
 }

@@ -106,8 +106,8 @@ fn following(alloc: Global, first: u32, count: u32) -> Result<Vec<Lit>, NoMemory
     Ok(lits)
 }
 
-/// Adds the variables and clauses of registers. The launches have the first variables.
-pub fn extend_by_pool(
+/// Adds the variables and clauses of registers that are kept to the end of the block. The launches have the first variables.
+pub fn extend_by_registers(
     alloc: Global,
     cnf: &mut Cnf,
     facts: &Facts,

@@ -1,5 +1,5 @@
 // The counts of memory, of a guard's branch, and of registers, found row by row before any clause is.
-ghost use Rattle.std.specs.Prelude.{◌≡◌, ◌+◌, ◌*◌, ◌<◌, ◌≤◌, ◌^◌, ◌&&◌, length};
+ghost use Rattle.std.specs.Prelude.{◌≡◌, ◌+◌, ◌*◌, ◌<◌, ◌≤◌, ◌^◌, ◌&&◌, length, IfOk};
 ghost use Rattle.std.specs.List.{range_with_len, sum_by};
 ghost use Rattle.schedule_meaning.specs.Limits.{most_cycles};
 ghost use Rattle.cnf_core.specs.Counter as counter;
@@ -9,17 +9,21 @@ ghost use Rattle.schedule_meaning.specs.Launches as launches;
 ghost use Rattle.cycle_encoding.specs.Counts as cycle_counts;
 ghost use Rattle.cycle_encoding.specs.Counts.{one_if, row_is};
 ghost use Rattle.cycle_encoding.specs.Counts.{row_destinations, sum_destined};
+ghost use Rattle.cycle_encoding.specs.CycleFormula.{allocation_in};
 ghost use Rattle.order_encoding.specs.OrderCounts as counts;
 ghost use Rattle.order_encoding.specs.OrderCounts.{row_uses, row_waits};
 
 use crate::counts::{memory_count, other_count, registers, row_stores, row_use_count, times};
 use crate::kinds::waits;
+use crate::live_counts::live_sizes;
 use cnf_core::{at_most_size, at_most_vars};
 use cycle_encoding::{
     Facts, Scope, Sizes, destination_count, one_size, one_vars, row_count, takes_register,
 };
+use items::NoMemory;
 use machine_table::Table;
-use schedule_meaning::is_branch;
+use schedule_meaning::{Allocation, is_branch};
+use std::alloc::Global;
 
 /// How many stores may be launched in a cycle.
 #[tactic(auto, using(crate::proofs::CountSteps::sum_more))]
@@ -32,7 +36,8 @@ fn store_count(facts: &Facts, table: &Table, scope: &Scope, k: u32, cycle: u32) 
 {
     let mut count = 0;
     for row in 0..facts.row_numbers() {
-        count += row_stores(facts, table, scope, k, cycle, row) * destination_count(facts, row);
+        count += row_stores(facts, table, scope, k, cycle, row)
+            * destination_count(facts, scope.allocation(), row);
     }
     count
 }
@@ -67,10 +72,10 @@ fn row_use_clauses(facts: &Facts, table: &Table, scope: &Scope, k: u32, row: u32
     requires table { IsTable table.now }
     requires cycles { k ≤ most_cycles }
     ensures value { result ≡ cycle_counts.row_count facts.now table.now k scope.now row
-        * sum_by (λ to. row_uses facts.now row) (row_destinations facts.now row) }
+        * sum_by (λ to. row_uses facts.now row) (row_destinations facts.now (allocation_in scope.now) row) }
     ensures few { result ≤ 19200 }
 {
-    row_use_count(facts, table, scope, k, row) * destination_count(facts, row)
+    row_use_count(facts, table, scope, k, row) * destination_count(facts, scope.allocation(), row)
 }
 
 /// How many clauses say which memory loads and stores use.
@@ -118,11 +123,11 @@ fn destined_if(facts: &Facts, table: &Table, scope: &Scope, k: u32, row: u32, pa
     requires table { IsTable table.now }
     requires cycles { k ≤ most_cycles }
     ensures value { result ≡ cycle_counts.row_count facts.now table.now k scope.now row
-        * sum_by (λ to. one_if passes) (row_destinations facts.now row) }
+        * sum_by (λ to. one_if passes) (row_destinations facts.now (allocation_in scope.now) row) }
     ensures few { result ≤ 6400 }
 {
     if passes {
-        row_count(facts, table, scope, k, row) * destination_count(facts, row)
+        row_count(facts, table, scope, k, row) * destination_count(facts, scope.allocation(), row)
     } else {
         0
     }
@@ -198,13 +203,14 @@ fn register_count(facts: &Facts, table: &Table, scope: &Scope, k: u32) -> u64
 {
     let mut count = 0;
     for row in 0..facts.row_numbers() {
-        count += row_count(facts, table, scope, k, row) * takes_register(facts, row);
+        count += row_count(facts, table, scope, k, row)
+            * takes_register(facts, scope.allocation(), row);
     }
     count
 }
 
-/// The counts of registers.
-pub fn pool_sizes(facts: &Facts, table: &Table, scope: &Scope, k: u32) -> Sizes
+/// The counts of registers that are kept to the end of the block.
+pub fn register_sizes(facts: &Facts, table: &Table, scope: &Scope, k: u32) -> Sizes
     requires table { IsTable table.now }
     requires cycles { k ≤ most_cycles }
     requires rows { length facts.now.rows < 2 ^ 30 }
@@ -218,5 +224,29 @@ pub fn pool_sizes(facts: &Facts, table: &Table, scope: &Scope, k: u32) -> Sizes
     Sizes {
         vars: u64::from(taken) + at_most_vars(most, taken as usize),
         clauses: register_count(facts, table, scope, k) + at_most_size(most, taken as usize),
+    }
+}
+
+/// The counts of registers.
+pub fn pool_sizes(
+    alloc: Global,
+    facts: &Facts,
+    table: &Table,
+    scope: &Scope,
+    k: u32,
+) -> Result<Sizes, NoMemory>
+    requires graph { IsLaunchGraph facts.now }
+    requires table { IsTable table.now }
+    requires cycles { k ≤ most_cycles }
+    ensures vars { IfOk result (λ sizes. sizes.vars
+        ≡ counts.pool_vars facts.now table.now k scope.now (allocation_in scope.now)) }
+    ensures clauses { IfOk result (λ sizes. sizes.clauses
+        ≡ counts.pool_size facts.now table.now k scope.now (allocation_in scope.now)) }
+    ensures few_vars { IfOk result (λ sizes. sizes.vars < 2 ^ 61) }
+    ensures few_clauses { IfOk result (λ sizes. sizes.clauses < 2 ^ 62) }
+{
+    match scope.allocation() {
+        Allocation::Block => Ok(register_sizes(facts, table, scope, k)),
+        Allocation::Live => live_sizes(alloc, facts, table, scope, k),
     }
 }

@@ -6,9 +6,10 @@ ghost use Rattle.cnf_core.specs.Formula.{Satisfies};
 ghost use Rattle.graph_meaning.specs.WellFormed.{IsLaunchGraph};
 ghost use Rattle.machine_table.specs.Tables.{IsTable};
 ghost use Rattle.schedule_meaning.specs.Fits.{Fits};
+ghost use Rattle.schedule_meaning.specs.declared.schedules.Allocation.TheVariants.{Block};
 ghost use Rattle.schedule_meaning.specs.declared.schedules.Launch.{Launch as LaunchOf};
 ghost use Rattle.cycle_encoding.specs.CycleFormula.{Listed as ListedOf};
-ghost use Rattle.cycle_encoding.specs.Encodings.{AreListed};
+ghost use Rattle.cycle_encoding.specs.Encodings.{AreListed, allocation_of};
 ghost use Rattle.cycle_encoding.specs.Faults.{EncodeFaultIs};
 ghost use Rattle.cycle_encoding.specs.CycleFormula.{listed_in};
 ghost use Rattle.cycle_encoding.specs.CycleFormula.{wide, before_overwritten};
@@ -28,24 +29,34 @@ use cycle_encoding::{
 use graph_meaning::LaunchGraph;
 use items::NoMemory;
 use machine_table::Table;
+use slot_capacity::{Capacity, capacity_sizes};
 use std::alloc::Global;
 
 /// The two counts of the whole formula over what a scope gives variables; no clause is built. It goes over the graph's
-/// rows a few times for each cycle.
-pub fn formula_size(facts: &Facts, table: &Table, scope: &Scope, k: u32) -> Sizes
+/// rows a few times for each cycle; by live ranges alone it takes memory.
+pub fn formula_size(
+    alloc: Global,
+    facts: &Facts,
+    table: &Table,
+    scope: &Scope,
+    k: u32,
+) -> Result<Sizes, NoMemory>
     requires cycles { k ≤ most_cycles }
     requires table { IsTable table.now }
     requires graph { IsLaunchGraph facts.now }
-    ensures vars { result.vars ≡ (formula_in scope.now facts.now table.now k).vars }
-    ensures clauses { result.clauses ≡ length (formula_in scope.now facts.now table.now k).clauses }
-    ensures few { (result.vars < 2 ^ 62) × (result.clauses < 2 ^ 63 + 2 ^ 62) }
+    ensures vars { IfOk result (λ sizes. sizes.vars ≡ (formula_in scope.now facts.now table.now k).vars) }
+    ensures clauses { IfOk result (λ sizes. sizes.clauses
+        ≡ length (formula_in scope.now facts.now table.now k).clauses) }
+    ensures few { IfOk result (λ sizes. (sizes.vars < 2 ^ 62) × (sizes.clauses < 2 ^ 63 + 2 ^ 62 + 2 ^ 61)) }
 {
     counts_are_found();
     let cycle = cycle_sizes(facts, table, scope, k);
     let with_memory = both(cycle, memory_sizes(facts, table, scope, k));
     let with_guard = both(with_memory, guard_sizes(facts, table, scope, k));
-    let with_pool = both(with_guard, pool_sizes(facts, table, scope, k));
-    both(with_pool, pins_sizes(facts, table, scope, k))
+    let with_pool = both(with_guard, pool_sizes(alloc, facts, table, scope, k)?);
+    let with_pins = both(with_pool, pins_sizes(facts, table, scope, k));
+    let capacity = Capacity::of(alloc, facts, table, scope, k)?;
+    Ok(both(with_pins, capacity_sizes(facts, table, scope, k, &capacity)))
 }
 
 /// The whole formula over what a scope gives variables. Facts and scope are made once for a graph and a table, and
@@ -72,7 +83,7 @@ pub fn build_formula(
     ensures within { OnOk result (¬ IsTooLarge (formula_in scope.now facts.now table.now k)) }
     ensures vars { IfOk result (λ e. length e.plan.launches ≤ e.cnf.vars) }
 {
-    let sizes = formula_size(facts, table, scope, k);
+    let sizes = formula_size(alloc, facts, table, scope, k)?;
     sizes.within_limits()?;
     Ok(build_whole(alloc, facts, table, scope, k)?)
 }
@@ -100,8 +111,8 @@ pub fn full(
 
     // What the values of variables show fits where they satisfy the clauses, and each schedule that fits is shown.
     ensures shown { IfOk result (λ e. (v : ℕ → Bool) → Satisfies v e.cnf.clauses
-        → Fits graph.now table.now k (shown v (numbered 0 e.plan.launches))) }
-    ensures each { IfOk result (λ e. (ls : List LaunchOf) → Fits graph.now table.now k ls
+        → Fits graph.now table.now Block k (shown v (numbered 0 e.plan.launches))) }
+    ensures each { IfOk result (λ e. (ls : List LaunchOf) → Fits graph.now table.now Block k ls
         → (v : ℕ → Bool) × Satisfies v e.cnf.clauses
         × ((l : LaunchOf) → Contains (shown v (numbered 0 e.plan.launches)) l ↔ Contains ls l)) }
 {
@@ -140,9 +151,9 @@ pub fn full_as(
     // What the values of variables show fits where they satisfy the clauses, and each schedule that fits has a part
     // that fits and is shown.
     ensures shown { IfOk result (λ e. (v : ℕ → Bool) → Satisfies v e.cnf.clauses
-        → Fits graph.now table.now k (shown v (numbered 0 e.plan.launches))) }
-    ensures some { IfOk result (λ e. (ls : List LaunchOf) → Fits graph.now table.now k ls
-        → (ms : List LaunchOf) × Fits graph.now table.now k ms × ((keep : LaunchOf → Bool) × (ms ≡ filter keep ls))
+        → Fits graph.now table.now (allocation_of encoding) k (shown v (numbered 0 e.plan.launches))) }
+    ensures some { IfOk result (λ e. (ls : List LaunchOf) → Fits graph.now table.now (allocation_of encoding) k ls
+        → (ms : List LaunchOf) × Fits graph.now table.now (allocation_of encoding) k ms × ((keep : LaunchOf → Bool) × (ms ≡ filter keep ls))
         × ((v : ℕ → Bool) × Satisfies v e.cnf.clauses
         × ((l : LaunchOf) → Contains (shown v (numbered 0 e.plan.launches)) l ↔ Contains ms l))) }
 {
@@ -214,6 +225,17 @@ fn build_whole(
     extend(
         alloc,
         Part::Pins,
+        &mut cnf,
+        facts,
+        table,
+        scope,
+        k,
+        launches,
+        over,
+    )?;
+    extend(
+        alloc,
+        Part::Capacity,
         &mut cnf,
         facts,
         table,

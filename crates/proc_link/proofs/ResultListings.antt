@@ -9,7 +9,6 @@ use Rattle.std.proofs.lemmas.Option.{same_Some, none-some}
 use Rattle.schedule_meaning.specs.Limits.{most_cycles, most_launches}
 use Rattle.word_ops.specs.Words.{IsWord}
 use Rattle.word_ops.specs.Worlds.{World, IsWorld}
-use Rattle.cycle_encoding.specs.declared.encodings.Encoding.TheVariants.{Pinned}
 use Rattle.denali_run.specs.MatchedGoals.{IsSettings}
 use Rattle.denali_run.specs.Right.{AreRightResults, Right}
 use Rattle.reports.specs.Statuses.{greater, status_code}
@@ -34,6 +33,7 @@ use Rattle.register_assign.specs.declared.listings.Item.{Item}
 use Rattle.register_assign.specs.declared.listings.Listing.{Listing}
 use Rattle.register_assign.specs.declared.listings.Where.{Where}
 use Rattle.schedule_meaning.specs.Fits.{Fits}
+use Rattle.schedule_meaning.specs.declared.schedules.Allocation.{Allocation}
 use Rattle.schedule_meaning.specs.declared.schedules.Launch.{Launch}
 use Rattle.proc_link.specs.Follows.{AreListings, IsListingOfBlock}
 use Rattle.proc_link.specs.ProcAnswers.{listings_of, with_listing}
@@ -41,12 +41,12 @@ use Rattle.proc_link.specs.ProcAnswers.{listings_of, with_listing}
 -- what holds of each listing of a schedule that fits
 abbrev pub OfEachListing : (List Item → Type 0) → Type 0
 OfEachListing P =
-    (g : LaunchGraph) (table : Table) (k : ℕ) (ls : List Launch) (items : List Item) (wheres : List Where) → IsLaunchGraph g → IsTable table
-    → Fits g table k ls → k ≤ most_cycles → IsTheListing g table ls items wheres → P items
+    (g : LaunchGraph) (table : Table) (a : Allocation) (k : ℕ) (ls : List Launch) (items : List Item) (wheres : List Where)
+    → IsLaunchGraph g → IsTable table → Fits g table a k ls → k ≤ most_cycles → IsTheListing g table a ls items wheres → P items
 
 module _ (p : ProcTree) (is_proc : IsProc p) (s : Settings) (settings : IsSettings s) where
   abbrev IsRight : GoalTree → Answered → Type 0
-  IsRight goal answered = Right Pinned (input_of_proc p) goal s answered
+  IsRight goal answered = Right (input_of_proc p) goal s answered
 
   module _ (words : OfEachListing HaveWords) (run : OfEachListing MayRun) (few : OfEachListing (λ (items : List Item). length items ≤ most_launches)) where
     one_listing : (b : BlockTree) (f : Found) → IsRight (goal_of_block p b) (answers.Scheduled f) → IsListingOfBlock p b f.listing
@@ -57,9 +57,9 @@ module _ (p : ProcTree) (is_proc : IsProc p) (s : Settings) (settings : IsSettin
         record {
           words = f.words;
           are_words = h.2.words;
-          have_words = words f.matched.graph p.table f.k f.schedule.launches f.listing.items f.listing.wheres h.0.graph is_proc.table h.2.fits low h.2.listing;
-          may_run = run f.matched.graph p.table f.k f.schedule.launches f.listing.items f.listing.wheres h.0.graph is_proc.table h.2.fits low h.2.listing;
-          few = few f.matched.graph p.table f.k f.schedule.launches f.listing.items f.listing.wheres h.0.graph is_proc.table h.2.fits low h.2.listing;
+          have_words = words f.matched.graph p.table s.allocation f.k f.schedule.launches f.listing.items f.listing.wheres h.0.graph is_proc.table h.2.fits low h.2.listing;
+          may_run = run f.matched.graph p.table s.allocation f.k f.schedule.launches f.listing.items f.listing.wheres h.0.graph is_proc.table h.2.fits low h.2.listing;
+          few = few f.matched.graph p.table s.allocation f.k f.schedule.launches f.listing.items f.listing.wheres h.0.graph is_proc.table h.2.fits low h.2.listing;
           computes = h.2.computes;
         }
 
@@ -81,7 +81,7 @@ module _ (p : ProcTree) (is_proc : IsProc p) (s : Settings) (settings : IsSettin
     each_listing (b ∷ bs) (answers.SpentSize l ∷ rs) ls h e = absurd (none-some ls e)
     each_listing (b ∷ bs) (answers.NoWorld class x y ∷ rs) ls h e = absurd (none-some ls e)
 
-    pub are_listings : (results : List Answered) (ls : List Listing) → AreRightResults Pinned (input_of_proc p) s results → listings_of results ≡ Some ls → AreListings p ls
+    pub are_listings : (results : List Answered) (ls : List Listing) → AreRightResults (input_of_proc p) s results → listings_of results ≡ Some ls → AreListings p ls
     are_listings results ls right e = each_listing p.blocks results ls right e
 
   -- ---- a proc's blocks have worlds
@@ -119,5 +119,5 @@ module _ (p : ProcTree) (is_proc : IsProc p) (s : Settings) (settings : IsSettin
       each_kept bs rs (greater from (status_of r)) h.1
       (kept_by (nat_lt (status_code from) (status_code (status_of r))) from (status_of r) k (has_world b r h.0))
 
-  pub ends_otherwise : (results : List Answered) → AreRightResults Pinned (input_of_proc p) s results → greatest_status results ≢ status.NoWorld
+  pub ends_otherwise : (results : List Answered) → AreRightResults (input_of_proc p) s results → greatest_status results ≢ status.NoWorld
   ends_otherwise results right = each_kept p.blocks results status.Done right (λ e. cc)

@@ -3,7 +3,6 @@
 use Rattle.std.specs.Prelude.{◌≡◌, ◌≢◌, ℕ, List, [], ◌∷◌, ◌++◌, map, Option, Some, None}
 use Rattle.alpha_encode.specs.Formats.{encoded}
 use Rattle.answer_texts.specs.ReadAnswers.{ReadsAnswer}
-use Rattle.cycle_encoding.specs.declared.encodings.Encoding.TheVariants.{Pinned}
 use Rattle.denali_run.specs.ClaimedResults.{StartsWithinFormat, answer_text, answer_to}
 use Rattle.denali_run.specs.Right.{AreRightResults}
 use Rattle.denali_run.specs.TextAnswers.{greatest_status}
@@ -52,15 +51,15 @@ pub data AreBehind (p : ProcTree) (results : List Answered) : List Words → Typ
 -- graph of each block's goal has no more rows than the format allows, the lines of the results are read as what they say.
 pub record AnswersBlocks (s : Settings) (p : ProcTree) (bytes : List ℕ) (ending : Status) : Type 0 where
   pub results : List Answered
-  pub right : AreRightResults Pinned (input_of_proc p) s results
+  pub right : AreRightResults (input_of_proc p) s results
   pub behind : List Words
   pub are_behind : AreBehind p results behind
-  pub bytes_are : bytes ≡ answer_text Pinned s.library (input_of_proc p) results ++ lines_text behind
+  pub bytes_are : bytes ≡ answer_text s (input_of_proc p) results ++ lines_text behind
   pub status_is : ending ≡ greatest_status results
   pub has_world : ending ≢ status.NoWorld
   pub read_back :
       StartsWithinFormat (input_of_proc p)
-      → ReadsAnswer (answer_text Pinned s.library (input_of_proc p) results) (answer_to Pinned s.library (input_of_proc p) results)
+      → ReadsAnswer (answer_text s (input_of_proc p) results) (answer_to s (input_of_proc p) results)
 
 -- the text reads as a proc, of which this is the answer
 pub record AnswersProc (s : Settings) (text bytes : List ℕ) (ending : Status) : Type 0 where

@@ -1,6 +1,5 @@
 // The work of `proc`, from the bytes of a text of a proc to those of its answer.
 ghost use Rattle.std.specs.Prelude.{◌<◌, ◌^◌, IfErr, IfOk, OnOk, length};
-ghost use Rattle.cycle_encoding.specs.declared.encodings.Encoding.TheVariants.{Pinned};
 ghost use Rattle.denali_run.specs.MatchedGoals.{IsSettings};
 ghost use Rattle.denali_run.specs.Right.{AreRightResults};
 ghost use Rattle.denali_run.specs.declared.settings.Settings.{Settings as SettingsOf};
@@ -47,7 +46,7 @@ fn put_behind(
 ) -> Result<(), NoMemory>
     requires proc { IsProc (proc_view proc.now) }
     requires right { (s : SettingsOf) × IsSettings s
-        × AreRightResults Pinned (input_of_proc (proc_view proc.now)) s results.now }
+        × AreRightResults (input_of_proc (proc_view proc.now)) s results.now }
     ensures { OnOk result (AppendsBehind (proc_view proc.now) results.now text.old.items text.new.items) }
 {
     listings_have_words();
@@ -66,7 +65,7 @@ fn solve_proc(alloc: Global, proc: &Proc, settings: &Settings) -> Result<Report,
     right_answers_are_read();
     let input = input_of(alloc, proc)?;
     let results = solve_input(alloc, &input, settings)?;
-    let answer = answer_text(alloc, settings.library, &input, &results)?;
+    let answer = answer_text(alloc, settings, &input, &results)?;
     let mut bytes = answer.bytes;
     put_behind(alloc, &mut bytes, proc, &results)?;
     Ok(Report {

@@ -15,6 +15,7 @@ use Rattle.cnf_core.specs.Refutation.{Refutes}
 use Rattle.cnf_core.specs.declared.line.Line.{Line}
 use Rattle.cnf_core.specs.declared.line.Lines.{Lines}
 use Rattle.cycle_encoding.specs.Plans.{IsTooLarge}
+use Rattle.cycle_encoding.specs.Allocations.{allocation_of}
 use Rattle.cycle_encoding.specs.declared.encodings.Encoding.{Encoding}
 use Rattle.machine_table.specs.declared.tables.Table.{Table}
 use Rattle.text_core.specs.LineTexts.{Words, lines_text}
@@ -51,15 +52,15 @@ within_limits g (needed {lines} to within right t) h some = h (ap (λ (o : Optio
 holds_with : (e : Encoding) (table : Table) (c : Claimed) (refute : Option Lines) (v : Verdict) → AreTrimmedLines e table c refute → IsVerdict e table c v → v ≡ Holds → IsVerdict e table (record c { refute = refute }) v
 holds_with e table c refute v lines (seen claim is) holds = seen claim is
 holds_with e table c refute v lines (tested {g} {clauses_for} printed formulas o) holds =
-    let was : IsOutcome table g clauses_for c Holds = subst (IsOutcome table g clauses_for c) holds o in
+    let was : IsOutcome table (allocation_of e) g clauses_for c Holds = subst (IsOutcome table (allocation_of e) g clauses_for c) holds o in
     let f = clauses_for (refuted_cycles c.claim) in
     tested {g = g} {clauses_for = clauses_for} printed formulas
-    (subst (IsOutcome table g clauses_for (record c { refute = refute })) (sym holds)
+    (subst (IsOutcome table (allocation_of e) g clauses_for (record c { refute = refute })) (sym holds)
     (was.0, was.1, within_limits f lines was.2, was.3, refuting f lines was.4, was.5))
 
 seen_with : (e : Encoding) (table : Table) (c : Claimed) (refute : Option Lines) (v : Verdict) → IsVerdict e table c v → v ≡ Seen → IsVerdict e table (record c { refute = refute }) v
 seen_with e table c refute v (seen claim is) nothing = seen claim is
-seen_with e table c refute v (tested {g} {clauses_for} printed formulas o) nothing = absurd (subst (IsOutcome table g clauses_for c) nothing o)
+seen_with e table c refute v (tested {g} {clauses_for} printed formulas o) nothing = absurd (subst (IsOutcome table (allocation_of e) g clauses_for c) nothing o)
 
 -- ---- a goal's verdict and its line
 

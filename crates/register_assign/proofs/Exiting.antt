@@ -30,6 +30,7 @@ use Rattle.graph_meaning.specs.declared.graphs.LaunchGraph.{LaunchGraph}
 use Rattle.machine_table.specs.declared.tables.Table.{Table}
 use Rattle.machine_table.specs.declared.tables.InstrKind.{InstrKind}
 use Rattle.machine_table.specs.declared.tables.InstrKind.TheVariants as kinds
+use Rattle.schedule_meaning.specs.declared.schedules.Allocation.{Allocation}
 use Rattle.schedule_meaning.specs.declared.schedules.Launch.{Launch}
 use Rattle.schedule_meaning.proofs.Rules.{at_each, all_at, in_list}
 use Rattle.register_assign.proofs.Reached.{HasReached, IsUntouched}
@@ -111,9 +112,10 @@ module _ (g : LaunchGraph) where
   no_branch_op (op.Constant c) xs = refl
   no_branch_op (op.Declared d a) xs = refl
 
-module _ (g : LaunchGraph) (table : Table) (k : ℕ) (ordered : List Launch) (w : World) (value : ℕ → Value)
-    (scene : IsScene g table k ordered w value) (exit : IsExit g value)
-    (words : List ℕ) (are : AreWordsOf (items_of g table ordered) words) where
+module _ (g : LaunchGraph) (table : Table) (allocation : Allocation) (k : ℕ) (ordered : List Launch) (w : World)
+    (value : ℕ → Value)
+    (scene : IsScene g table allocation k ordered w value) (exit : IsExit g value)
+    (words : List ℕ) (are : AreWordsOf (items_of g table allocation ordered) words) where
   one_branch : (o : Option Guard) → IsSomeAnd o (λ guard. value guard.class ≡ word 0) → IfSome o (λ _. count_by (launches g is_branch) ordered ≡ 1) → count_by (launches g is_branch) ordered ≡ 1
   one_branch None h c = absurd h
   one_branch (Some guard) h c = c
@@ -136,7 +138,7 @@ module _ (g : LaunchGraph) (table : Table) (k : ℕ) (ordered : List Launch) (w 
   no_row_by : (o : Option LaunchRow) → slice_get g.rows l.row ≡ o → slice_get g.rows l.row ≡ None
   no_row_by None e = e
   no_row_by (Some r) e =
-      absurd (false≢true (sym (ap (λ q. option_map_or is_branch q false) (kind_is g table k ordered w value scene b l here r.class r.op r.name r.operands e) ∙ no_branch_op g r.op r.operands) ∙ the_branch.3))
+      absurd (false≢true (sym (ap (λ q. option_map_or is_branch q false) (kind_is g table allocation k ordered w value scene b l here r.class r.op r.name r.operands e) ∙ no_branch_op g r.op r.operands) ∙ the_branch.3))
 
   no_copy_by : (o : Option ℕ) → copied_at g l.row ≡ o → copied_at g l.row ≡ None
   no_copy_by None e = e
@@ -153,7 +155,9 @@ module _ (g : LaunchGraph) (table : Table) (k : ℕ) (ordered : List Launch) (w 
   not_before : (j : ℕ) (m : Launch) → j < b → slice_get ordered j ≡ Some m → IsTrue (launches g is_store m) ⊎ (IsTrue (launches g is_load m) × IsTrue (is_held g)) ⊎ IsTrue (overwrites g m) → 1 < group_of g m → ⊥
   not_before j m lt e h more =
       let le : l.cycle ≤ m.cycle = waits j m e h in
-      let less : m.cycle < l.cycle = earlier_cycle g ordered scene.order j b m l lt e here (let one : group_of g l ≡ 1 = branch_group g l (can_go g table k ordered scene.graph scene.proper scene.fits b l here) the_branch.3 in omega arith) in
+      let less : m.cycle < l.cycle = earlier_cycle g ordered scene.order j b m l lt e here
+      (let one : group_of g l ≡ 1 = branch_group g l allocation ordered
+      (can_go g table allocation k ordered scene.graph scene.proper scene.fits b l here) the_branch.3 in omega arith) in
       absurd (omega arith)
 
   false_from : (q : Bool) → ¬ (q ≡ true) → q ≡ false
@@ -164,19 +168,21 @@ module _ (g : LaunchGraph) (table : Table) (k : ℕ) (ordered : List Launch) (w 
   no_store =
       all_at (λ m. launches g is_store m ≡ false) (take b ordered) (λ j m lt e.
       let p = at_take ordered b j m e in
-      false_from (launches g is_store m) (λ t. not_before j m p.0 p.1 (inl t) (let three : group_of g m ≡ 3 = store_group g m (can_go g table k ordered scene.graph scene.proper scene.fits j m p.1) t in omega arith)))
+      false_from (launches g is_store m) (λ t. not_before j m p.0 p.1 (inl t) (let three : group_of g m ≡ 3 =
+      store_group g m allocation ordered
+      (can_go g table allocation k ordered scene.graph scene.proper scene.fits j m p.1) t in omega arith)))
 
   abbrev instrs : List Instr
-  instrs = instrs_of (items_of g table ordered)
+  instrs = instrs_of (items_of g table allocation ordered)
 
   abbrev at_branch : MachineState
   at_branch = after b instrs (entry_state w)
 
-  each : (n : ℕ) (m : Launch) (s : MachineState) → n < b → slice_get ordered n ≡ Some m → HasReached g w value ordered n s → HasReached g w value ordered (n + 1) (step (instr_of g table ordered n m) s)
-  each n m s lt e reached = other_step g table k ordered w value scene n m e s reached (the_branch.4 n m lt e)
+  each : (n : ℕ) (m : Launch) (s : MachineState) → n < b → slice_get ordered n ≡ Some m → HasReached g allocation w value ordered n s → HasReached g allocation w value ordered (n + 1) (step (instr_of g table allocation ordered n m) s)
+  each n m s lt e reached = other_step g table allocation k ordered w value scene n m e s reached (the_branch.4 n m lt e)
 
-  reached_at : (n : ℕ) → n ≤ b → HasReached g w value ordered n (after n instrs (entry_state w))
-  reached_at n le = reached_after g table ordered w value b each (λ n m s lt e reached. never_traps g table k ordered w value scene n m s reached e) n le (let i = inside in omega arith) (reached_first g w value ordered scene.world scene.true_in)
+  reached_at : (n : ℕ) → n ≤ b → HasReached g allocation w value ordered n (after n instrs (entry_state w))
+  reached_at n le = reached_after g table allocation ordered w value b each (λ n m s lt e reached. never_traps g table allocation k ordered w value scene n m s reached e) n le (let i = inside in omega arith) (reached_first g allocation w value ordered scene.world scene.true_in)
 
   same_memory : {a c : Memory} → memory a ≡ memory c → a ≡ c
   same_memory e = cc
@@ -198,29 +204,29 @@ module _ (g : LaunchGraph) (table : Table) (k : ℕ) (ordered : List Launch) (w 
       let few = scene.few in
       ap (λ p. address (next_pc p) 4 (pos (length ordered - b))) pc ∙ omega arith
 
-  fetched_at : (n : ℕ) (m : Launch) → n ≤ b → slice_get ordered n ≡ Some m → fetched instrs (after n instrs (entry_state w)) ≡ Some (instr_of g table ordered n m)
+  fetched_at : (n : ℕ) (m : Launch) → n ≤ b → slice_get ordered n ≡ Some m → fetched instrs (after n instrs (entry_state w)) ≡ Some (instr_of g table allocation ordered n m)
   fetched_at n m le e =
       let pc : (after n instrs (entry_state w)).pc ≡ 4 * n = (reached_at n le).pc in
-      ap (slice_get instrs) (let p : (after n instrs (entry_state w)).pc / 4 ≡ n = omega arith in p) ∙ word_at_place g table ordered n m e
+      ap (slice_get instrs) (let p : (after n instrs (entry_state w)).pc / 4 ≡ n = omega arith in p) ∙ word_at_place g table allocation ordered n m e
 
-  at_place : (n : ℕ) (m : Launch) → n ≤ b → slice_get ordered n ≡ Some m → stepped_instr instrs (after n instrs (entry_state w)) ≡ Some (instr_of g table ordered n m)
+  at_place : (n : ℕ) (m : Launch) → n ≤ b → slice_get ordered n ≡ Some m → stepped_instr instrs (after n instrs (entry_state w)) ≡ Some (instr_of g table allocation ordered n m)
   at_place n m le e =
-      instr_stepped instrs (after n instrs (entry_state w)) (instr_of g table ordered n m) (fetched_at n m le e) (never_traps g table k ordered w value scene n m (after n instrs (entry_state w)) (reached_at n le) e)
+      instr_stepped instrs (after n instrs (entry_state w)) (instr_of g table allocation ordered n m) (fetched_at n m le e) (never_traps g table allocation k ordered w value scene n m (after n instrs (entry_state w)) (reached_at n le) e)
 
   leaves : stepped instrs at_branch ≡ left
   leaves =
       ap (λ o. option_map_or (λ i. step i at_branch) o at_branch) (at_place b l (omega arith) here)
-      ∙ left_by g table k ordered w value scene b l here at_branch (reached_at b (omega arith)) no_row exit
+      ∙ left_by g table allocation k ordered w value scene b l here at_branch (reached_at b (omega arith)) no_row exit
 
   count : length instrs ≡ length ordered
-  count = items_count g table ordered 0 ordered
+  count = items_count g table allocation ordered 0 ordered
 
   past : length instrs ≤ left.pc / 4
   past = let c = count in let p = left_pc in omega arith
 
   ends : after (length words) instrs (entry_state w) ≡ left
   ends =
-      let total : length words ≡ length ordered = words_count (items_of g table ordered) words are ∙ count in
+      let total : length words ≡ length ordered = words_count (items_of g table allocation ordered) words are ∙ count in
       let i = inside in
       let parts : length words ≡ suc b + (length ordered - suc b) = omega arith in
       ap (λ n. after n instrs (entry_state w)) parts
@@ -236,14 +242,16 @@ module _ (g : LaunchGraph) (table : Table) (k : ℕ) (ordered : List Launch) (w 
   before_or_branch : (n : ℕ) → n ≤ b → (n < b) ⊎ (n ≡ b)
   before_or_branch n h = grind arith
 
-  no_load_at : IsTrue (is_held g) → (n : ℕ) (m : Launch) → n ≤ b → slice_get ordered n ≡ Some m → IsNoLoad (instr_of g table ordered n m)
+  no_load_at : IsTrue (is_held g) → (n : ℕ) (m : Launch) → n ≤ b → slice_get ordered n ≡ Some m → IsNoLoad (instr_of g table allocation ordered n m)
   no_load_at held n m le e t =
-      let load : launches g is_load m ≡ true = ap (λ o. option_map_or is_load o false) (kind_at g table ordered n m (can g table k ordered w value scene n m e)) ∙ t in
+      let load : launches g is_load m ≡ true = ap (λ o. option_map_or is_load o false) (kind_at g table allocation ordered n m (can g table allocation k ordered w value scene n m e)) ∙ t in
       elim (before_or_branch n le) [
-        | inl lt ↦ not_before n m lt e (inr (inl (load, held))) (let two : group_of g m ≡ 2 = held_group g m (can_go g table k ordered scene.graph scene.proper scene.fits n m e) held load in omega arith)
+        | inl lt ↦
+            not_before n m lt e (inr (inl (load, held))) (held_group g m allocation ordered
+            (can_go g table allocation k ordered scene.graph scene.proper scene.fits n m e) held load)
         | inr same ↦ (
             let one : m ≡ l = same_Some m l (sym e ∙ ap (slice_get ordered) same ∙ here) in
-            false≢true (sym (branch_tests g table k ordered w value scene b l here is_load no_row) ∙ ap (launches g is_load) (sym one) ∙ load))
+            false≢true (sym (branch_tests g table allocation k ordered w value scene b l here is_load no_row) ∙ ap (launches g is_load) (sym one) ∙ load))
       ]
 
   traced : IsTrue (is_held g) → (d n i : ℕ) → i + d ≡ b → All IsNoLoad (trace n instrs (after i instrs (entry_state w)))
@@ -253,8 +261,8 @@ module _ (g : LaunchGraph) (table : Table) (k : ℕ) (ordered : List Launch) (w 
       subst (λ k. All IsNoLoad (trace (suc n) instrs (after k instrs (entry_state w)))) (sym same)
       (subst (All IsNoLoad)
       (sym (ap (λ o. stepped_first o (trace n instrs (stepped instrs at_branch))) (at_place b l (omega arith) here)
-      ∙ ap (λ q. instr_of g table ordered b l ∷ q) (ap (trace n instrs) leaves ∙ nothing_traced n instrs left past)))
-      (All-cons IsNoLoad (instr_of g table ordered b l) [] (no_load_at held b l (omega arith) here) (All-nil IsNoLoad)))
+      ∙ ap (λ q. instr_of g table allocation ordered b l ∷ q) (ap (trace n instrs) leaves ∙ nothing_traced n instrs left past)))
+      (All-cons IsNoLoad (instr_of g table allocation ordered b l) [] (no_load_at held b l (omega arith) here) (All-nil IsNoLoad)))
   traced held (suc d) (suc n) i e =
       let lt : i < length ordered = (let q = inside in omega arith) in
       let le : i ≤ b = omega arith in
@@ -263,7 +271,7 @@ module _ (g : LaunchGraph) (table : Table) (k : ℕ) (ordered : List Launch) (w 
         | inl a ↦ (
             subst (All IsNoLoad)
             (sym (ap (λ o. stepped_first o (trace n instrs (stepped instrs (after i instrs (entry_state w))))) (at_place i a.0 le a.2)))
-            (All-cons IsNoLoad (instr_of g table ordered i a.0) (trace n instrs (stepped instrs (after i instrs (entry_state w)))) (no_load_at held i a.0 le a.2)
+            (All-cons IsNoLoad (instr_of g table allocation ordered i a.0) (trace n instrs (stepped instrs (after i instrs (entry_state w)))) (no_load_at held i a.0 le a.2)
             (subst (λ s. All IsNoLoad (trace n instrs s)) (after_more i instrs (entry_state w)) rest)))
         | inr c ↦ (let q : length ordered ≤ i = c.0 in absurd (omega arith))
       ]
@@ -274,15 +282,15 @@ module _ (g : LaunchGraph) (table : Table) (k : ℕ) (ordered : List Launch) (w 
       let over : overwrites g m ≡ true = over_from g i.reg m wrote (any_at (λ x. x.reg == i.reg) g.inputs at i there (number_same i.reg i.reg refl)) in
       not_before j m lt e (inr (inr over)) (let four : group_of g m ≡ 4 = over_group g m over in omega arith)
 
-  is_branch_word : instr_of g table ordered b l ≡ Beq (register_for g table ordered l (option_map_or (λ guard. guard.class) g.guard 0)) (pos (length ordered - b))
+  is_branch_word : instr_of g table allocation ordered b l ≡ Beq (register_for g table allocation ordered l (option_map_or (λ guard. guard.class) g.guard 0)) (pos (length ordered - b))
   is_branch_word =
-      ap (λ o. option_map_or (copy_instr g table ordered b l) o (plain_instr g table ordered b l)) no_row.0
-      ∙ ap (λ o. option_map_or (λ r. row_instr g table ordered b l r.op r.operands) o (Beq (register_for g table ordered l (option_map_or (λ guard. guard.class) g.guard 0)) (pos (length ordered - b)))) no_row.1
+      ap (λ o. option_map_or (copy_instr g table allocation ordered b l) o (plain_instr g table allocation ordered b l)) no_row.0
+      ∙ ap (λ o. option_map_or (λ r. row_instr g table allocation ordered b l r.op r.operands) o (Beq (register_for g table allocation ordered l (option_map_or (λ guard. guard.class) g.guard 0)) (pos (length ordered - b)))) no_row.1
 
   total : length words ≡ length ordered
-  total = words_count (items_of g table ordered) words are ∙ count
+  total = words_count (items_of g table allocation ordered) words are ∙ count
 
-  pub exits : Exits g w (items_of g table ordered) words
+  pub exits : Exits g w (items_of g table allocation ordered) words
   exits = record {
     state = left;
     runs = record {
@@ -290,7 +298,7 @@ module _ (g : LaunchGraph) (table : Table) (k : ℕ) (ordered : List Launch) (w 
       decode = are;
       begins = refl;
       steps = ends;
-      ends = left_pc ∙ ap (λ n. 4 * n + 4) (sym (words_count (items_of g table ordered) words are ∙ count));
+      ends = left_pc ∙ ap (λ n. 4 * n + 4) (sym (words_count (items_of g table allocation ordered) words are ∙ count));
     };
     memory_is = memory_kept;
     inputs = λ i d lt. (reached_at b (omega arith)).kept (get_or g.inputs i d).reg (inputs_apart g scene.proper i d lt) (input_kept (get_or g.inputs i d) i (slice_get-get_or g.inputs i d lt));
@@ -298,7 +306,7 @@ module _ (g : LaunchGraph) (table : Table) (k : ℕ) (ordered : List Launch) (w 
     place = b;
     inside = (let t = total in let i = inside in omega arith);
     each = λ n le. (reached_at n le).pc;
-    branch = (register_for g table ordered l (option_map_or (λ guard. guard.class) g.guard 0), word_at_place g table ordered b l here ∙ ap Some is_branch_word ∙ ap (λ n. Some (Beq (register_for g table ordered l (option_map_or (λ guard. guard.class) g.guard 0)) (pos (n - b)))) (sym total));
+    branch = (register_for g table allocation ordered l (option_map_or (λ guard. guard.class) g.guard 0), word_at_place g table allocation ordered b l here ∙ ap Some is_branch_word ∙ ap (λ n. Some (Beq (register_for g table allocation ordered l (option_map_or (λ guard. guard.class) g.guard 0)) (pos (n - b)))) (sym total));
     taken = after_more b instrs (entry_state w) ∙ leaves;
-    no_load = λ held. traced held b (length (items_of g table ordered)) 0 (omega arith);
+    no_load = λ held. traced held b (length (items_of g table allocation ordered)) 0 (omega arith);
   }

@@ -1,5 +1,5 @@
 -- Where loads, stores and the branch stand in word order.
-use Rattle.std.proofs.Common.{◌≡◌, ℕ, ◌<◌, ◌≤◌, List, refl, ◌∙◌, ap, inl, inr, arith, Bool, true, false, Option, Some, None}
+use Rattle.std.proofs.Common.{◌≡◌, ℕ, ◌<◌, ◌≤◌, List, refl, ◌∙◌, ap, inl, inr, ◌⊎◌, arith, Bool, true, false, Option, Some, None}
 use Rattle.std.specs.Prelude.{AllPairs, IsTrue, slice_get, if◌then◌else◌}
 use Rattle.std.specs.Option.{option_map_or}
 use Rattle.std.proofs.lemmas.Bool.{false≢true}
@@ -7,10 +7,11 @@ use Rattle.schedule_meaning.specs.Launches.{launches, gives_word, is_store, is_l
 use Rattle.machine_table.specs.declared.tables.InstrKind.{InstrKind}
 use Rattle.machine_table.specs.declared.tables.InstrKind.TheVariants as kinds
 use Rattle.graph_meaning.specs.declared.graphs.LaunchGraph.{LaunchGraph}
+use Rattle.schedule_meaning.specs.declared.schedules.Allocation.{Allocation}
 use Rattle.schedule_meaning.specs.declared.schedules.Launch.{Launch}
-use Rattle.schedule_meaning.specs.Fits.{CanGo}
+use Rattle.schedule_meaning.specs.Fits.{CanGo, MayLoadOver}
 use Rattle.schedule_meaning.proofs.Rules.{at_pair}
-use Rattle.schedule_meaning.proofs.Pins.{idle_not_over, load_not_over}
+use Rattle.schedule_meaning.proofs.Pins.{idle_not_over, load_over}
 
 store_kind : (held : Bool) (o : Option InstrKind) → option_map_or is_store o false ≡ true → kind_group held o ≡ 3
 store_kind held None h = absurd (false≢true h)
@@ -66,21 +67,36 @@ module _ (g : LaunchGraph) (l : Launch) where
   pub plain_low : overwrites g l ≡ false → group_of g l ≤ 3
   plain_low f = let e = plain_group f in let k = kind_low (is_held g) (instr_at g l.row) in omega arith
 
-  module _ (goes : CanGo g l) where
+  module _ (allocation : Allocation) (ls : List Launch) (goes : CanGo g allocation ls l) where
     pub store_plain : IsTrue (launches g is_store l) → overwrites g l ≡ false
-    store_plain h = idle_not_over g l goes (store_idle (instr_at g l.row) h)
+    store_plain h = idle_not_over g allocation ls l goes (store_idle (instr_at g l.row) h)
 
     pub branch_plain : IsTrue (launches g is_branch l) → overwrites g l ≡ false
-    branch_plain h = idle_not_over g l goes (branch_idle (instr_at g l.row) h)
+    branch_plain h = idle_not_over g allocation ls l goes (branch_idle (instr_at g l.row) h)
 
     pub store_group : IsTrue (launches g is_store l) → group_of g l ≡ 3
     store_group h = plain_group (store_plain h) ∙ store_kind (is_held g) (instr_at g l.row) h
 
-    pub load_group : IsTrue (launches g is_load l) → group_of g l < 3
-    load_group h = let e = plain_group (load_not_over g l goes h) in let k = load_kind (is_held g) (instr_at g l.row) h in omega arith
+    either : (b : Bool) → (b ≡ true) ⊎ (b ≡ false)
+    either true = inl refl
+    either false = inr refl
 
-    pub held_group : IsTrue (is_held g) → IsTrue (launches g is_load l) → group_of g l ≡ 2
-    held_group t h = plain_group (load_not_over g l goes h) ∙ held_kind (is_held g) (instr_at g l.row) t h
+    -- a load stands before the store of its cycle, or there is none
+    pub load_group : IsTrue (launches g is_load l) → (group_of g l < 3) ⊎ MayLoadOver g allocation ls l
+    load_group h =
+        elim (either (overwrites g l)) [
+          | inl over ↦ inr (load_over g allocation ls l goes h over)
+          | inr plain ↦
+              inl (let e = plain_group plain in let k = load_kind (is_held g) (instr_at g l.row) h in omega arith)
+        ]
+
+    -- a load that is held stands behind the branch
+    pub held_group : IsTrue (is_held g) → IsTrue (launches g is_load l) → 1 < group_of g l
+    held_group t h =
+        elim (either (overwrites g l)) [
+          | inl over ↦ (let e = over_group over in omega arith)
+          | inr plain ↦ (let e = plain_group plain ∙ held_kind (is_held g) (instr_at g l.row) t h in omega arith)
+        ]
 
     pub branch_group : IsTrue (launches g is_branch l) → group_of g l ≡ 1
     branch_group h = plain_group (branch_plain h) ∙ branch_kind (is_held g) (instr_at g l.row) h

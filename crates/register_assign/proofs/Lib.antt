@@ -8,12 +8,14 @@ mod Falling
 mod First
 mod Groups
 mod Intact
+mod Lasting
 mod Listed
 mod Obeyed
 mod Obeying
 mod OfListings
 mod Once
 mod Operands
+mod Placing
 mod Proper
 mod Quiet
 mod Reached
@@ -27,3 +29,4 @@ mod Steps
 mod Stores
 mod Whole
 mod WordByWord
+mod Zipped

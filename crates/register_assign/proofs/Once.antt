@@ -9,6 +9,7 @@ use Rattle.graph_meaning.specs.declared.graphs.LaunchGraph.{LaunchGraph}
 use Rattle.register_assign.specs.declared.listings.Item.{Item}
 use Rattle.register_assign.specs.declared.listings.Where.{Where}
 use Rattle.machine_table.specs.declared.tables.Table.{Table}
+use Rattle.schedule_meaning.specs.declared.schedules.Allocation.{Allocation}
 use Rattle.schedule_meaning.specs.declared.schedules.Launch.{Launch}
 use Rattle.schedule_meaning.proofs.Memory.{contains_first, contains_later}
 use Rattle.schedule_meaning.proofs.Ordered.{fits_permuted}
@@ -70,17 +71,18 @@ module _ (g : LaunchGraph) where
       by (inr (c, inr a)) (inr (d, inl b)) = let e = a.0 in absurd (omega arith)
       by (inr (c, inr a)) (inr (d, inr b)) = let f = a.1 in let e = b.1 in h.1 (c, omega arith)
 
-  module _ (table : Table) (k : ℕ) (ls : List Launch) (fits : Fits g table k ls) where
-    strictly : (ordered : List Launch) → IsInWordOrder g ls ordered → AllPairs Strictly ordered
-    strictly ordered o i j d lt len = (o.order i j d lt len, (fits_permuted g table k ls ordered o.same fits).apart i j d lt len)
+  module _ (table : Table) (allocation : Allocation) (k : ℕ) (ls : List Launch) (fits : Fits g table allocation k ls)
+    where
+      strictly : (ordered : List Launch) → IsInWordOrder g ls ordered → AllPairs Strictly ordered
+      strictly ordered o i j d lt len = (o.order i j d lt len, (fits_permuted g table allocation k ls ordered o.same fits).apart i j d lt len)
 
-    pub one_word_order : (xs ys : List Launch) → IsInWordOrder g ls xs → IsInWordOrder g ls ys → xs ≡ ys
-    one_word_order xs ys p q =
-        one_order Strictly asymmetric xs ys (strictly xs p) (strictly ys q)
-        (λ z c. Contains-permutation ls ys z q.same (Contains-permutation xs ls z (IsPermutation-sym ls xs p.same) c))
-        (λ z c. Contains-permutation ls xs z p.same (Contains-permutation ys ls z (IsPermutation-sym ls ys q.same) c))
+      pub one_word_order : (xs ys : List Launch) → IsInWordOrder g ls xs → IsInWordOrder g ls ys → xs ≡ ys
+      one_word_order xs ys p q =
+          one_order Strictly asymmetric xs ys (strictly xs p) (strictly ys q)
+          (λ z c. Contains-permutation ls ys z q.same (Contains-permutation xs ls z (IsPermutation-sym ls xs p.same) c))
+          (λ z c. Contains-permutation ls xs z p.same (Contains-permutation ys ls z (IsPermutation-sym ls ys q.same) c))
 
-    pub one_listing : (items others : List Item) (wheres places : List Where) → IsListing g table ls items wheres → IsListing g table ls others places → (items ≡ others) × (wheres ≡ places)
-    one_listing items others wheres places a b =
-        let e : a.ordered ≡ b.ordered = one_word_order a.ordered b.ordered a.order b.order in
-        (a.items_are ∙ ap (items_of g table) e ∙ sym b.items_are, a.wheres_are ∙ ap (wheres_of g table) e ∙ sym b.wheres_are)
+      pub one_listing : (items others : List Item) (wheres places : List Where) → IsListing g table allocation ls items wheres → IsListing g table allocation ls others places → (items ≡ others) × (wheres ≡ places)
+      one_listing items others wheres places a b =
+          let e : a.ordered ≡ b.ordered = one_word_order a.ordered b.ordered a.order b.order in
+          (a.items_are ∙ ap (items_of g table allocation) e ∙ sym b.items_are, a.wheres_are ∙ ap (wheres_of g table allocation) e ∙ sym b.wheres_are)

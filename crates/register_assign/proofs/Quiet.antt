@@ -1,5 +1,5 @@
 -- No word of a schedule traps where the graph is true: the address of an access is the multiple that it has to be.
-use Rattle.std.proofs.Common.{◌≡◌, ℕ, zero, suc, ◌-◌, ◌%◌, ◌^◌, ◌<◌, ◌⊎◌, List, [], ◌∷◌, length, pos, refl, sym, ◌∙◌, ap, subst, arith, Bool, true, not, Option, Some, None}
+use Rattle.std.proofs.Common.{◌≡◌, ℕ, zero, suc, ◌-◌, ◌%◌, ◌^◌, ◌<◌, List, [], ◌∷◌, length, pos, refl, sym, ◌∙◌, ap, subst, arith, Bool, true, not, Option, Some, None}
 use Rattle.std.specs.Prelude.{All, IsFalse, IsSomeAnd, ◌&&◌, ◌==◌, nat_le, slice_get, slice_index, if◌then◌else◌}
 use Rattle.std.specs.Option.{option_map_or}
 use Rattle.std.proofs.lemmas.Bool.{eq-eqb, leb-true}
@@ -15,11 +15,11 @@ use Rattle.word_ops.specs.declared.sorts.Sort.TheVariants as sorts
 use Rattle.word_ops.specs.declared.sorts.Op.{Op}
 use Rattle.word_ops.specs.declared.sorts.Op.TheVariants as op
 use Rattle.alpha_machine.specs.States.{MachineState}
-use Rattle.alpha_machine.specs.Steps.{address, is_multiple, place_of, traps}
+use Rattle.alpha_machine.specs.Steps.{is_multiple, place_of, traps}
 use Rattle.machine_table.specs.Tables.{MayUse}
 use Rattle.graph_meaning.specs.Graphs.{multiple_of}
 use Rattle.graph_meaning.specs.Multiples.{is_sum_multiple}
-use Rattle.schedule_meaning.specs.Launches.{displaced, op_instr, plain, op_operands, IsFree, IsReadable, copied_at}
+use Rattle.schedule_meaning.specs.Launches.{displaced, op_instr, plain, op_operands, copied_at}
 use Rattle.schedule_meaning.specs.declared.schedules.Operand.{Operand}
 use Rattle.register_assign.specs.Listings.{register_at, register_for, displacement_of, instr_of, plain_instr, row_instr, word_instr, operate_instr, copy_instr, branch_class, reg}
 use Rattle.alpha_encode.specs.declared.instructions.Instr.{Instr}
@@ -29,9 +29,10 @@ use Rattle.graph_meaning.specs.declared.graphs.LaunchGraph.{LaunchGraph}
 use Rattle.machine_table.specs.declared.tables.Table.{Table}
 use Rattle.machine_table.specs.declared.tables.InstrKind.{InstrKind}
 use Rattle.machine_table.specs.declared.tables.InstrKind.TheVariants as kinds
+use Rattle.schedule_meaning.specs.declared.schedules.Allocation.{Allocation}
 use Rattle.schedule_meaning.specs.declared.schedules.Launch.{Launch}
 use Rattle.register_assign.proofs.Reached.{HasReached}
-use Rattle.register_assign.proofs.Scene.{IsScene, row_with, arity_is, operand_value, can_is, reads_is}
+use Rattle.register_assign.proofs.Scene.{IsScene, CanUse, row_with, arity_is, operand_value, can_is, reads_is}
 use Rattle.register_assign.proofs.Operands.{displaced_constant, where_passed, address_reads, base_reads}
 use Rattle.register_assign.proofs.Steps.{two_of, three_of, four_of}
 
@@ -46,12 +47,13 @@ load_quiet n v b h = ap (λ t. not t && b) (multiple_from n v h)
 store_quiet : (n v : ℕ) → v % 2 ^ n ≡ 0 → IsFalse (not (is_multiple n v))
 store_quiet n v h = ap not (multiple_from n v h)
 
-module _ (g : LaunchGraph) (table : Table) (k : ℕ) (ordered : List Launch) (w : World) (value : ℕ → Value)
-    (scene : IsScene g table k ordered w value)
-    (n : ℕ) (l : Launch) (s : MachineState) (reached : HasReached g w value ordered n s)
+module _ (g : LaunchGraph) (table : Table) (allocation : Allocation) (k : ℕ) (ordered : List Launch) (w : World)
+    (value : ℕ → Value)
+    (scene : IsScene g table allocation k ordered w value)
+    (n : ℕ) (l : Launch) (s : MachineState) (reached : HasReached g allocation w value ordered n s)
     (here : slice_get ordered n ≡ Some l) where
   abbrev Usable : Operand → Type 0
-  Usable p = IsFree g p ⊎ IsReadable g table ordered l p.class
+  Usable p = CanUse g table ordered l p
 
   abbrev May : InstrKind → Type 0
   May i = MayUse table i l.slot
@@ -61,16 +63,16 @@ module _ (g : LaunchGraph) (table : Table) (k : ℕ) (ordered : List Launch) (w 
 
   module _ (class : ℕ) (o : Op) (name xs : List ℕ) (row : Row class name o xs) where
     reads : All Usable (op_operands o xs)
-    reads = reads_is g table k ordered w value scene n l here class o name xs row
+    reads = reads_is g table allocation k ordered w value scene n l here class o name xs row
 
     can : IsSomeAnd (op_instr g o xs) May
-    can = can_is g table k ordered w value scene n l here class o name xs row
+    can = can_is g table allocation k ordered w value scene n l here class o name xs row
 
     arity : length xs ≡ arity_of_op o
-    arity = arity_is g table k ordered w value scene n l here class o name xs row
+    arity = arity_is g table allocation k ordered w value scene n l here class o name xs row
 
     second_value : 1 < length xs → IsValue (operand_sort o 1) (value (slice_index xs 1))
-    second_value lt = operand_value g table k ordered w value scene n l here class o name xs row 1 lt
+    second_value lt = operand_value g table allocation k ordered w value scene n l here class o name xs row 1 lt
 
   -- ---- addresses
 
@@ -78,28 +80,28 @@ module _ (g : LaunchGraph) (table : Table) (k : ℕ) (ordered : List Launch) (w 
   class_times : (access : Access) (a : ℕ) (i : InstrKind)
       → IsSomeAnd (if nat_le (alignment access) (multiple_of g a) then Some i else None) May → Usable (plain a)
       → IsValue sorts.Word (value a)
-      → place_of s (register_for g table ordered l a) (pos 0) % 2 ^ alignment access ≡ 0
+      → place_of s (register_for g table allocation ordered l a) (pos 0) % 2 ^ alignment access ≡ 0
   class_times access a i can usable sort =
       let enough = (where_passed (nat_le (alignment access) (multiple_of g a)) (Some i) May can).0 in
       ap (λ v. v % 2 ^ alignment access)
-      (address_reads g table k ordered w value scene n l s reached here a usable sort)
+      (address_reads g table allocation k ordered w value scene n l s reached here a usable sort)
       ∙ scene.multiples.class a (alignment access) (leb-true (alignment access) (multiple_of g a) enough)
 
   -- that of a base and a displacement
   sum_times : (access : Access) (x d : ℕ) (i : InstrKind)
       → IsSomeAnd (if is_sum_multiple g (alignment access) x d then displaced g i d else None) May → Usable (plain x)
-      → place_of s (register_for g table ordered l x) (displacement_of g d) % 2 ^ alignment access ≡ 0
+      → place_of s (register_for g table allocation ordered l x) (displacement_of g d) % 2 ^ alignment access ≡ 0
   sum_times access x d i can usable =
       let p = where_passed (is_sum_multiple g (alignment access) x d) (displaced g i d) May can in
       let c = displaced_constant g d i May p.1 in
       ap (λ v. v % 2 ^ alignment access)
-      (base_reads g table k ordered w value scene n l s reached here x d c.0 usable c.1)
+      (base_reads g table allocation k ordered w value scene n l s reached here x d c.0 usable c.1)
       ∙ scene.multiples.sum (alignment access) x d p.0
 
   -- ---- rows
 
   abbrev IsQuiet : Op → List ℕ → Type 0
-  IsQuiet o xs = IsFalse (traps (row_instr g table ordered n l o xs) s)
+  IsQuiet o xs = IsFalse (traps (row_instr g table allocation ordered n l o xs) s)
 
   select_quiet : (access : Access) (class m a : ℕ) (name : List ℕ) → Row class name (op.Select access) (m ∷ a ∷ [])
       → IsQuiet (op.Select access) (m ∷ a ∷ [])
@@ -107,8 +109,8 @@ module _ (g : LaunchGraph) (table : Table) (k : ℕ) (ordered : List Launch) (w 
       let can_be = can class (op.Select access) name (m ∷ a ∷ []) row in
       let usable = All-head Usable (plain a) [] (reads class (op.Select access) name (m ∷ a ∷ []) row) in
       let sort = second_value class (op.Select access) name (m ∷ a ∷ []) row (omega arith) in
-      load_quiet (alignment access) (place_of s (register_for g table ordered l a) (pos 0))
-      (not (register_at g ordered n == 31)) (class_times access a (kinds.Load access) can_be usable sort)
+      load_quiet (alignment access) (place_of s (register_for g table allocation ordered l a) (pos 0))
+      (not (register_at g allocation ordered n == 31)) (class_times access a (kinds.Load access) can_be usable sort)
 
   store_row_quiet : (access : Access) (class m a v : ℕ) (name : List ℕ)
       → Row class name (op.Store access) (m ∷ a ∷ v ∷ []) → IsQuiet (op.Store access) (m ∷ a ∷ v ∷ [])
@@ -117,7 +119,7 @@ module _ (g : LaunchGraph) (table : Table) (k : ℕ) (ordered : List Launch) (w 
       let usable =
       All-head Usable (plain a) (plain v ∷ []) (reads class (op.Store access) name (m ∷ a ∷ v ∷ []) row) in
       let sort = second_value class (op.Store access) name (m ∷ a ∷ v ∷ []) row (omega arith) in
-      store_quiet (alignment access) (place_of s (register_for g table ordered l a) (pos 0))
+      store_quiet (alignment access) (place_of s (register_for g table allocation ordered l a) (pos 0))
       (class_times access a (kinds.Store access) can_be usable sort)
 
   load_row_quiet : (access : Access) (class m x d : ℕ) (name : List ℕ)
@@ -125,8 +127,8 @@ module _ (g : LaunchGraph) (table : Table) (k : ℕ) (ordered : List Launch) (w 
   load_row_quiet access class m x d name row =
       let can_be = can class (op.Load access) name (m ∷ x ∷ d ∷ []) row in
       let usable = All-head Usable (plain x) [] (reads class (op.Load access) name (m ∷ x ∷ d ∷ []) row) in
-      load_quiet (alignment access) (place_of s (register_for g table ordered l x) (displacement_of g d))
-      (not (register_at g ordered n == 31)) (sum_times access x d (kinds.Load access) can_be usable)
+      load_quiet (alignment access) (place_of s (register_for g table allocation ordered l x) (displacement_of g d))
+      (not (register_at g allocation ordered n == 31)) (sum_times access x d (kinds.Load access) can_be usable)
 
   put_quiet : (access : Access) (class m x d v : ℕ) (name : List ℕ)
       → Row class name (op.Put access) (m ∷ x ∷ d ∷ v ∷ []) → IsQuiet (op.Put access) (m ∷ x ∷ d ∷ v ∷ [])
@@ -134,15 +136,15 @@ module _ (g : LaunchGraph) (table : Table) (k : ℕ) (ordered : List Launch) (w 
       let can_be = can class (op.Put access) name (m ∷ x ∷ d ∷ v ∷ []) row in
       let usable =
       All-head Usable (plain x) (plain v ∷ []) (reads class (op.Put access) name (m ∷ x ∷ d ∷ v ∷ []) row) in
-      store_quiet (alignment access) (place_of s (register_for g table ordered l x) (displacement_of g d))
+      store_quiet (alignment access) (place_of s (register_for g table allocation ordered l x) (displacement_of g d))
       (sum_times access x d (kinds.Store access) can_be usable)
 
-  operate_quiet : (o : OperateOf) (xs : List ℕ) → IsFalse (traps (operate_instr g table ordered n l o xs) s)
+  operate_quiet : (o : OperateOf) (xs : List ℕ) → IsFalse (traps (operate_instr g table allocation ordered n l o xs) s)
   operate_quiet o [] = refl
   operate_quiet o (x ∷ []) = refl
   operate_quiet o (x ∷ y ∷ ys) = refl
 
-  word_quiet : (o : WordOp) (xs : List ℕ) → IsFalse (traps (word_instr g table ordered n l o xs) s)
+  word_quiet : (o : WordOp) (xs : List ℕ) → IsFalse (traps (word_instr g table allocation ordered n l o xs) s)
   word_quiet ops.Lda xs = refl
   word_quiet ops.Ldah xs = refl
   word_quiet (ops.Operate o) xs = operate_quiet o xs
@@ -175,17 +177,17 @@ module _ (g : LaunchGraph) (table : Table) (k : ℕ) (ordered : List Launch) (w 
 
   abbrev row_or_branch : Option LaunchRow → Instr
   row_or_branch o =
-      option_map_or (λ r. row_instr g table ordered n l r.op r.operands) o
-      (Beq (reg g table ordered n l (branch_class g table ordered n l)) (pos (length ordered - n)))
+      option_map_or (λ r. row_instr g table allocation ordered n l r.op r.operands) o
+      (Beq (reg g table allocation ordered n l (branch_class g table allocation ordered n l)) (pos (length ordered - n)))
 
   quiet_by : (o : Option LaunchRow) → slice_get g.rows l.row ≡ o → IsFalse (traps (row_or_branch o) s)
   quiet_by None e = refl
   quiet_by (Some r) e = row_quiet r.class r.name r.operands r.op e
 
   quiet_copied : (o : Option ℕ)
-      → IsFalse (traps (option_map_or (copy_instr g table ordered n l) o (plain_instr g table ordered n l)) s)
+      → IsFalse (traps (option_map_or (copy_instr g table allocation ordered n l) o (plain_instr g table allocation ordered n l)) s)
   quiet_copied (Some class) = refl
   quiet_copied None = quiet_by (slice_get g.rows l.row) refl
 
-  pub never_traps : IsFalse (traps (instr_of g table ordered n l) s)
+  pub never_traps : IsFalse (traps (instr_of g table allocation ordered n l) s)
   never_traps = quiet_copied (copied_at g l.row)

@@ -20,7 +20,7 @@ use Rattle.alpha_machine.specs.States.{MachineState}
 use Rattle.register_assign.specs.Listings.{register_at, register_by, register_for, target_register, or_register}
 use Rattle.graph_meaning.specs.Graphs.{is_input_register}
 use Rattle.schedule_meaning.specs.Launches.{gives}
-use Rattle.register_assign.proofs.Reached.{HasReached, IsUntouched}
+use Rattle.register_assign.proofs.Reached.{HasReached, IsUntouched, Lasts}
 use Rattle.schedule_meaning.proofs.Pins.{any_at}
 use Rattle.register_assign.proofs.Intact.{intact_before, intact_at_end, unspoilt_is_intact, unwritten_is_intact}
 use Rattle.word_ops.specs.declared.sorts.Op.{Op}
@@ -29,6 +29,7 @@ use Rattle.graph_meaning.specs.declared.graphs.LaunchRow.{LaunchRow}
 use Rattle.graph_meaning.specs.declared.graphs.InputClass.{InputClass}
 use Rattle.graph_meaning.specs.declared.graphs.LaunchGraph.{LaunchGraph}
 use Rattle.machine_table.specs.declared.tables.Table.{Table}
+use Rattle.schedule_meaning.specs.declared.schedules.Allocation.{Allocation}
 use Rattle.schedule_meaning.specs.declared.schedules.Launch.{Launch}
 use Rattle.schedule_meaning.specs.declared.schedules.To.TheVariants.{Pool}
 use Rattle.schedule_meaning.proofs.Comparisons.{and_left, and_right, and_both, le_true, true_le}
@@ -113,7 +114,8 @@ zero_constant (Some n) e = elim (eqb_tells n 0) [ inl t ↦ ap Some t.1 | inr t 
 constant_zero : (o : Option ℕ) → o ≡ Some 0 → option_map_or (λ n. n == 0) o false ≡ true
 constant_zero o e = ap (λ p. option_map_or (λ n. n == 0) p false) e
 
-module _ (g : LaunchGraph) (table : Table) (ordered : List Launch) (w : World) (value : ℕ → Value)
+module _ (g : LaunchGraph) (table : Table) (allocation : Allocation) (ordered : List Launch) (w : World)
+    (value : ℕ → Value)
     (true_in : IsTrueUnder g w value)
     (zero_register : slice_index w.registers 31 ≡ 0)
     (low : All (λ r. r < 31) g.pool)
@@ -145,74 +147,109 @@ module _ (g : LaunchGraph) (table : Table) (ordered : List Launch) (w : World) (
       ]
 
   -- the register chosen among inputs whose registers were not written before place n, and launches that stand before it
-  module _ (n : ℕ) (s : MachineState) (reached : HasReached g w value ordered n s) (holds : ℕ → Bool) (test : Launch → Bool)
+  -- and whose registers last
+  module _ (n : ℕ) (s : MachineState) (reached : HasReached g allocation w value ordered n s) (holds : ℕ → Bool) (test : Launch → Bool)
       (untouched : (r : ℕ) → is_input_register g r ≡ true → holds r ≡ true → IsUntouched g ordered n r)
-      (before : (j : ℕ) (m : Launch) → slice_get ordered j ≡ Some m → test m ≡ true → j < n) where
-    abbrev passes : ℕ → Launch → Bool
-    passes class m = gives g class m && test m
+      (before : (j : ℕ) (m : Launch) → slice_get ordered j ≡ Some m → test m ≡ true → j < n)
+      (class : ℕ)
+      (lasts : is_zero_class g class ≡ false → input_where g holds class ≡ None → (j : ℕ) (m : Launch) → slice_get
+      ordered j ≡ Some m → IsTrue (launches g gives_word m) → class_at g m.row ≡ class → Lasts g allocation ordered j n)
+    where
+      abbrev passes : Launch → Bool
+      passes m = gives g class m && test m
 
-    abbrev pub IsChosenFrom : ℕ → Type 0
-    IsChosenFrom class = IsZero g class ⊎ (HasInput g class (λ r. holds r ≡ true) ⊎ Any (λ m. Gives g class m × (test m ≡ true)) ordered)
+      abbrev IsChosenFrom : Type 0
+      IsChosenFrom =
+          IsZero g class ⊎ (HasInput g class (λ r. holds r ≡ true) ⊎ Any (λ m. Gives g class m × (test m ≡ true)) ordered)
 
-    abbrev of_class : ℕ → InputClass → Bool
-    of_class class i = (i.class == class) && holds i.reg
+      abbrev of_class : InputClass → Bool
+      of_class i = (i.class == class) && holds i.reg
 
-    input_value : (class : ℕ) (o : Option InputClass) → find (of_class class) g.inputs ≡ o → (r : ℕ) → option_map (λ i. i.reg) o ≡ Some r → word (slice_index s.registers r) ≡ value class
-    input_value class None e r f = absurd (none-some r f)
-    input_value class (Some i) e r f =
-        let P : InputClass → Type 0 = λ x. (value x.class ≡ word (slice_index w.registers x.reg)) × (¬ Contains g.pool x.reg) × (is_input_register g x.reg ≡ true) in
-        let both : All P g.inputs = λ k d lt. (true_in.inputs k d lt, inputs_apart k d lt, any_at (λ x. x.reg == (get_or g.inputs k d).reg) g.inputs k (get_or g.inputs k d) (slice_get-get_or g.inputs k d lt) (equal_true (get_or g.inputs k d).reg (get_or g.inputs k d).reg refl)) in
-        let found : P i × (of_class class i ≡ true) = found_passes (of_class class) P g.inputs i both e in
-        let same : i.class ≡ class = same_class w value i.class class (and_left (i.class == class) (holds i.reg) found.1) in
-        let reg : i.reg ≡ r = same_Some i.reg r f in
-        ap (λ x. word (slice_index s.registers x)) (sym reg) ∙ ap word (reached.kept i.reg found.0.1 (untouched i.reg found.0.2 (and_right (i.class == class) (holds i.reg) found.1))) ∙ sym found.0.0 ∙ ap value same
+      input_value : (o : Option InputClass) → find of_class g.inputs ≡ o → (r : ℕ) → option_map (λ i. i.reg) o ≡ Some r
+          → word (slice_index s.registers r) ≡ value class
+      input_value None e r f = absurd (none-some r f)
+      input_value (Some i) e r f =
+          let P : InputClass → Type 0 = λ x. (value x.class ≡ word (slice_index w.registers x.reg)) × (¬ Contains g.pool x.reg) × (is_input_register g x.reg ≡ true) in
+          let both : All P g.inputs = λ k d lt. (true_in.inputs k d lt, inputs_apart k d lt, any_at (λ x. x.reg == (get_or g.inputs k d).reg) g.inputs k (get_or g.inputs k d) (slice_get-get_or g.inputs k d lt) (equal_true (get_or g.inputs k d).reg (get_or g.inputs k d).reg refl)) in
+          let found : P i × (of_class i ≡ true) = found_passes of_class P g.inputs i both e in
+          let same : i.class ≡ class = same_class w value i.class class (and_left (i.class == class) (holds i.reg) found.1) in
+          let reg : i.reg ≡ r = same_Some i.reg r f in
+          ap (λ x. word (slice_index s.registers x)) (sym reg) ∙ ap word (reached.kept i.reg found.0.1 (untouched i.reg found.0.2 (and_right (i.class == class) (holds i.reg) found.1))) ∙ sym found.0.0 ∙ ap value same
 
-    launch_value : (class j : ℕ) → position (passes class) ordered ≡ Some j → word (slice_index s.registers (register_at g ordered j)) ≡ value class
-    launch_value class j e =
-        let there = position-Some (passes class) ordered j (record { cycle = 0; slot = 0; row = 0; to = Pool }) e in
-        let m : Launch = get_or ordered j (record { cycle = 0; slot = 0; row = 0; to = Pool }) in
-        let at_j : slice_get ordered j ≡ Some m = slice_get-get_or ordered j (record { cycle = 0; slot = 0; row = 0; to = Pool }) there.0 in
-        let given : gives g class m ≡ true = and_left (gives g class m) (test m) there.1 in
-        reached.given j m (before j m at_j (and_right (gives g class m) (test m) there.1)) at_j (and_left (launches g gives_word m) (class_at g m.row == class) given)
-        ∙ ap value (same_class w value (class_at g m.row) class (and_right (launches g gives_word m) (class_at g m.row == class) given))
+      launch_value : is_zero_class g class ≡ false → input_where g holds class ≡ None → (j : ℕ)
+          → position passes ordered ≡ Some j
+          → word (slice_index s.registers (register_at g allocation ordered j)) ≡ value class
+      launch_value z i j e =
+          let there = position-Some passes ordered j (record { cycle = 0; slot = 0; row = 0; to = Pool }) e in
+          let m : Launch = get_or ordered j (record { cycle = 0; slot = 0; row = 0; to = Pool }) in
+          let at_j : slice_get ordered j ≡ Some m = slice_get-get_or ordered j (record { cycle = 0; slot = 0; row = 0; to = Pool }) there.0 in
+          let given : gives g class m ≡ true = and_left (gives g class m) (test m) there.1 in
+          let word_is = and_left (launches g gives_word m) (class_at g m.row == class) given in
+          let class_is = same_class w value (class_at g m.row) class
+          (and_right (launches g gives_word m) (class_at g m.row == class) given) in
+          reached.given j m (before j m at_j (and_right (gives g class m) (test m) there.1)) at_j word_is
+          (lasts z i j m at_j word_is class_is)
+          ∙ ap value class_is
 
-    input_is_there : (class : ℕ) (o : Option InputClass) → find (of_class class) g.inputs ≡ o → option_map (λ i. i.reg) o ≡ None → ¬ HasInput g class (λ r. holds r ≡ true)
-    input_is_there class None e f h = find_none (of_class class) g.inputs e (h.0, h.1, h.2, h.3, and_both (h.1.class == class) (holds h.1.reg) (equal_true h.1.class class h.4.0) h.4.1)
-    input_is_there class (Some i) e f h = none-some i.reg (sym f)
+      input_is_there : (o : Option InputClass) → find of_class g.inputs ≡ o → option_map (λ i. i.reg) o ≡ None
+          → ¬ HasInput g class (λ r. holds r ≡ true)
+      input_is_there None e f h =
+          find_none of_class g.inputs e
+          (h.0, h.1, h.2, h.3, and_both (h.1.class == class) (holds h.1.reg) (equal_true h.1.class class h.4.0) h.4.1)
+      input_is_there (Some i) e f h = none-some i.reg (sym f)
 
-    by_cases : (class : ℕ) → IsChosenFrom class → (z : Bool) → is_zero_class g class ≡ z → (o : Option ℕ) → input_where g holds class ≡ o → (p : Option ℕ) → position (passes class) ordered ≡ p → word (slice_index s.registers (if z then 31 else or_register o (option_map_or (register_at g ordered) p 31))) ≡ value class
-    by_cases class h true z o i p e = ap word (reached.kept 31 not_31 (λ j m lt em. none_31 j m em) ∙ zero_register) ∙ sym (constant_is w value g.rows class 0 true_in.rows (zero_constant (constant_of g class) z))
-    by_cases class h false z (Some r) i p e = input_value class (find (of_class class) g.inputs) refl r i
-    by_cases class h false z None i (Some j) e = launch_value class j e
-    by_cases class (inl h) false z None i None e = absurd (false≢true (sym z ∙ constant_zero (constant_of g class) h))
-    by_cases class (inr (inl h)) false z None i None e = absurd (input_is_there class (find (of_class class) g.inputs) refl i h)
-    by_cases class (inr (inr h)) false z None i None e =
-        absurd (position_none (passes class) ordered e h.0 h.1 (slice_get-get_or ordered h.0 h.1 h.2 ∙ ap Some h.3) (and_both (gives g class h.1) (test h.1) (and_both (launches g gives_word h.1) (class_at g h.1.row == class) h.4.0.0 (equal_true (class_at g h.1.row) class h.4.0.1)) h.4.1))
+      by_cases : IsChosenFrom → (z : Bool) → is_zero_class g class ≡ z → (o : Option ℕ) → input_where g holds class ≡ o
+          → (p : Option ℕ) → position passes ordered ≡ p
+          → word (slice_index s.registers
+          (if z then 31 else or_register o (option_map_or (register_at g allocation ordered) p 31))) ≡ value class
+      by_cases h true z o i p e =
+          ap word (reached.kept 31 not_31 (λ j m lt em. none_31 j m em) ∙ zero_register)
+          ∙ sym (constant_is w value g.rows class 0 true_in.rows (zero_constant (constant_of g class) z))
+      by_cases h false z (Some r) i p e = input_value (find of_class g.inputs) refl r i
+      by_cases h false z None i (Some j) e = launch_value z i j e
+      by_cases (inl h) false z None i None e = absurd (false≢true (sym z ∙ constant_zero (constant_of g class) h))
+      by_cases (inr (inl h)) false z None i None e = absurd (input_is_there (find of_class g.inputs) refl i h)
+      by_cases (inr (inr h)) false z None i None e =
+          absurd (position_none passes ordered e h.0 h.1 (slice_get-get_or ordered h.0 h.1 h.2 ∙ ap Some h.3)
+          (and_both (gives g class h.1) (test h.1) (and_both (launches g gives_word h.1) (class_at g h.1.row == class)
+          h.4.0.0 (equal_true (class_at g h.1.row) class h.4.0.1)) h.4.1))
 
-    pub chosen_reads : (class : ℕ) → IsChosenFrom class → word (slice_index s.registers (register_by g ordered holds test class)) ≡ value class
-    chosen_reads class h = by_cases class h (is_zero_class g class) refl (input_where g holds class) refl (position (passes class) ordered) refl
+      pub chosen_reads : IsChosenFrom
+          → word (slice_index s.registers (register_by g allocation ordered holds test class)) ≡ value class
+      chosen_reads h =
+          by_cases h (is_zero_class g class) refl (input_where g holds class) refl (position passes ordered) refl
 
   -- at the end every launch stands before: the place of a target
-  pub place_reads : (s : MachineState) → HasReached g w value ordered (length ordered) s → (class : ℕ) → HasInput g class (IsUnwritten g ordered) ⊎ (IsZero g class ⊎ Any (Gives g class) ordered) → word (slice_index s.registers (target_register g table ordered class)) ≡ value class
-  place_reads s reached class h =
+  pub place_reads : (s : MachineState) → HasReached g allocation w value ordered (length ordered) s → (class : ℕ)
+      → (is_zero_class g class ≡ false → input_where g (is_intact g ordered None) class ≡ None → (j : ℕ) (m : Launch)
+      → slice_get ordered j ≡ Some m → IsTrue (launches g gives_word m) → class_at g m.row ≡ class
+      → Lasts g allocation ordered j (length ordered))
+      → HasInput g class (IsUnwritten g ordered) ⊎ (IsZero g class ⊎ Any (Gives g class) ordered)
+      → word (slice_index s.registers (target_register g table allocation ordered class)) ≡ value class
+  place_reads s reached class lasts h =
       chosen_reads (length ordered) s reached (is_intact g ordered None) (passes_by g table None)
       (λ r input holds. intact_at_end g ordered apart order r holds)
-      (λ j m e t. in_list ordered j m e) class (any_passes class h)
+      (λ j m e t. in_list ordered j m e) class lasts (any_passes class h)
     where
       any_passes : (class : ℕ) → HasInput g class (IsUnwritten g ordered) ⊎ (IsZero g class ⊎ Any (Gives g class) ordered) → IsZero g class ⊎ (HasInput g class (λ r. is_intact g ordered None r ≡ true) ⊎ Any (λ m. Gives g class m × (passes_by g table None m ≡ true)) ordered)
       any_passes class (inl h) = inr (inl (h.0, h.1, h.2, h.3, (h.4.0, unwritten_is_intact g ordered apart order h.1.reg h.4.1)))
       any_passes class (inr (inl h)) = inl h
       any_passes class (inr (inr h)) = inr (inr (h.0, h.1, h.2, h.3, (h.4, refl)))
 
-  module _ (n : ℕ) (l : Launch) (s : MachineState) (reached : HasReached g w value ordered n s) (here : slice_get ordered n ≡ Some l) where
+  module _ (n : ℕ) (l : Launch) (s : MachineState) (reached : HasReached g allocation w value ordered n s) (here : slice_get ordered n ≡ Some l) where
     readable_passes : (class : ℕ) → IsZero g class ⊎ IsReadable g table ordered l class → IsZero g class ⊎ (HasInput g class (λ r. is_intact g ordered (Some l) r ≡ true) ⊎ Any (λ m. Gives g class m × (passes_by g table (Some l) m ≡ true)) ordered)
     readable_passes class (inl h) = inl h
     readable_passes class (inr (inl h)) = inr (inl (h.0, h.1, h.2, h.3, (h.4.0, unspoilt_is_intact g ordered apart order l h.1.reg h.4.1)))
     readable_passes class (inr (inr h)) = inr (inr (h.0, h.1, h.2, h.3, (h.4.0, le_true (ready_in g table (cluster_of table l.slot) h.1) l.cycle h.4.1)))
 
     -- the register that an operand is read from holds the value of its class
-    pub register_reads : (class : ℕ) → IsZero g class ⊎ IsReadable g table ordered l class → word (slice_index s.registers (register_for g table ordered l class)) ≡ value class
-    register_reads class h =
+    pub register_reads : (class : ℕ) → (is_zero_class g class ≡ false → (j : ℕ) (m : Launch)
+        → slice_get ordered j ≡ Some m → IsTrue (launches g gives_word m) → class_at g m.row ≡ class
+        → Lasts g allocation ordered j n) → IsZero g class ⊎ IsReadable g table ordered l class
+        → word (slice_index s.registers (register_for g table allocation ordered l class)) ≡ value class
+    register_reads class lasts h =
         chosen_reads n s reached (is_intact g ordered (Some l)) (passes_by g table (Some l))
         (λ r input holds. intact_before g ordered apart order n l r here input holds)
-        (λ j m e t. ready_stands_before n j l m (cluster_of table l.slot) here e (true_le (ready_in g table (cluster_of table l.slot) m) l.cycle t)) class (readable_passes class h)
+        (λ j m e t. ready_stands_before n j l m (cluster_of table l.slot) here e
+        (true_le (ready_in g table (cluster_of table l.slot) m) l.cycle t)) class (λ z i. lasts z)
+        (readable_passes class h)

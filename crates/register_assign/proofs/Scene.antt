@@ -1,7 +1,8 @@
 -- The premises of a run: a schedule that fits a proper graph, in word order, and a world in which the graph is true.
-use Rattle.std.proofs.Common.{◌≡◌, ℕ, zero, suc, ◌%◌, ◌^◌, ◌<◌, ◌≤◌, ◌-◌, pos, List, [], ◌∷◌, length, map, refl, ◌∙◌, ap, subst, inl, inr, ◌⊎◌, arith, true, false, get_or, Option, Some, None}
+use Rattle.std.proofs.Common.{◌≡◌, ℕ, zero, suc, ◌%◌, ◌^◌, ◌<◌, ◌≤◌, ◌-◌, pos, List, [], ◌∷◌, length, map, refl, sym, ◌∙◌, ap, subst, inl, inr, ◌⊎◌, arith, Bool, true, false, not, get_or, Option, Some, None}
 use Rattle.std.specs.Prelude.{All, AllPairs, IsSomeAnd, slice_get, slice_index, ◌==◌, if◌then◌else◌, option_map}
 use Rattle.std.specs.Option.{option_map_or, option_and_then}
+use Rattle.std.proofs.lemmas.Bool.{false≢true, not_from_false}
 use Rattle.std.proofs.lemmas.Bool.Decides.{eqb_tells}
 use Rattle.std.proofs.lemmas.Option.{slice_get-get_or}
 use Rattle.word_ops.specs.Values.{lda}
@@ -13,8 +14,10 @@ use Rattle.machine_table.specs.Tables.{IsTable, MayUse}
 use Rattle.graph_meaning.specs.Graphs.{IsProper, IsTrueUnder, multiple_of, row_meaning}
 use Rattle.graph_meaning.specs.Multiples.{is_sum_multiple}
 use Rattle.graph_meaning.specs.WellFormed.{IsLaunchGraph, ClassHasSort}
-use Rattle.schedule_meaning.specs.Launches.{instr_at, op_instr, class_at, copied_at, ready_in, StandsBefore, IsFree, IsReadable, operands_at, op_operands, row_operands, guard_operands, memory_class_at}
+use Rattle.schedule_meaning.specs.Launches.{instr_at, op_instr, class_at, copied_at, ready_in, StandsBefore, IsFree, is_free, IsReadable, operands_at, op_operands, row_operands, guard_operands, memory_class_at}
+use Rattle.schedule_meaning.specs.Lifetimes.{is_operand_of, reads_class}
 use Rattle.schedule_meaning.specs.Fits.{Fits, CanLaunch, CanRead}
+use Rattle.schedule_meaning.specs.declared.schedules.Operand.{Operand}
 use Rattle.register_assign.specs.Listings.{instr_of, row_instr, copy_instr, branch_class, reg}
 use Rattle.alpha_encode.specs.declared.instructions.Instr.TheVariants as instrs
 use Rattle.graph_meaning.specs.declared.graphs.LaunchRow.{LaunchRow}
@@ -22,8 +25,12 @@ use Rattle.graph_meaning.specs.declared.graphs.LaunchGraph.{LaunchGraph}
 use Rattle.machine_table.specs.declared.tables.Table.{Table}
 use Rattle.machine_table.specs.declared.tables.InstrKind.{InstrKind}
 use Rattle.machine_table.specs.declared.tables.InstrKind.TheVariants as kinds
+use Rattle.schedule_meaning.specs.declared.schedules.Allocation.{Allocation}
 use Rattle.schedule_meaning.specs.declared.schedules.Launch.{Launch}
-use Rattle.schedule_meaning.proofs.Rules.{at_each, in_list}
+use Rattle.schedule_meaning.proofs.Comparisons.{and_both}
+use Rattle.schedule_meaning.proofs.Pins.{any_at, number_same}
+use Rattle.schedule_meaning.proofs.Uses.{free_is}
+use Rattle.schedule_meaning.proofs.Rules.{all_at, at_each, in_list}
 use Rattle.schedule_meaning.proofs.Ordered.{takes_time}
 use Rattle.schedule_meaning.proofs.Copies.{row_no_copy, plain_kind, plain_class, plain_operands}
 
@@ -32,11 +39,12 @@ pub record AreTrueMultiples (g : LaunchGraph) (value : ℕ → Value) : Type 0 w
   pub class : (class n : ℕ) → n ≤ multiple_of g class → as_word (value class) % 2 ^ n ≡ 0
   pub sum : (n x k : ℕ) → is_sum_multiple g n x k ≡ true → lda (as_word (value x)) (as_word (value k)) % 2 ^ n ≡ 0
 
-pub record IsScene (g : LaunchGraph) (table : Table) (k : ℕ) (ordered : List Launch) (w : World) (value : ℕ → Value) : Type 0 where
+pub record IsScene (g : LaunchGraph) (table : Table) (allocation : Allocation) (k : ℕ) (ordered : List Launch)
+    (w : World) (value : ℕ → Value) : Type 0 where
   pub is_table : IsTable table
   pub graph : IsLaunchGraph g
   pub proper : IsProper g
-  pub fits : Fits g table k ordered
+  pub fits : Fits g table allocation k ordered
   pub order : AllPairs (StandsBefore g) ordered
   pub few : length ordered < 2 ^ 32
   pub world : IsWorld w
@@ -54,8 +62,34 @@ map_at f [] i d h = absurd (omega arith)
 map_at f (x ∷ xs) zero d h = refl
 map_at f (x ∷ xs) (suc i) d h = map_at f xs i d (omega arith)
 
-module _ (g : LaunchGraph) (table : Table) (k : ℕ) (ordered : List Launch) (w : World) (value : ℕ → Value)
-    (scene : IsScene g table k ordered w value) where
+-- the operand is free; or the launch can read its class, and has it in a register
+abbrev pub CanUse : LaunchGraph → Table → List Launch → Launch → Operand → Type 0
+CanUse g table ordered l o = IsFree g o ⊎ (IsReadable g table ordered l o.class × (reads_class g o.class l ≡ true))
+
+module _ (g : LaunchGraph) (table : Table) (ordered : List Launch) (l : Launch) where
+  use_by : (at : ℕ) (o : Operand) → slice_get (operands_at g l.row) at ≡ Some o
+      → IsFree g o ⊎ IsReadable g table ordered l o.class → (b : Bool) → is_free g o ≡ b → CanUse g table ordered l o
+  use_by at o e h true free = inl ((free_is g o true (sym free)).0 refl)
+  use_by at o e (inl f) false taken = absurd (false≢true ((free_is g o false (sym taken)).1 f))
+  use_by at o e (inr r) false taken =
+      inr (
+        r,
+        any_at (is_operand_of g o.class) (operands_at g l.row) at o e
+            (and_both (o.class == o.class) (not (is_free g o)) (number_same o.class o.class refl)
+            (not_from_false (is_free g o) taken)),
+      )
+
+  -- the operands of a launch that can read them
+  pub uses_all : CanRead g table ordered l → All (CanUse g table ordered l) (operands_at g l.row)
+  uses_all h =
+      all_at (CanUse g table ordered l) (operands_at g l.row)
+      (λ at o lt e. use_by at o e
+      (at_each (λ o. IsFree g o ⊎ IsReadable g table ordered l o.class) (operands_at g l.row) h at o e) (is_free g o)
+      refl)
+
+module _ (g : LaunchGraph) (table : Table) (allocation : Allocation) (k : ℕ) (ordered : List Launch) (w : World)
+    (value : ℕ → Value)
+    (scene : IsScene g table allocation k ordered w value) where
   pub positive : (j : ℕ) (m : Launch) (c : ℕ) → slice_get ordered j ≡ Some m → m.cycle < ready_in g table c m
   positive = takes_time g table ordered scene.is_table scene.fits.rows
 
@@ -71,8 +105,9 @@ module _ (g : LaunchGraph) (table : Table) (k : ℕ) (ordered : List Launch) (w 
     pub can : CanLaunch g table l
     can = at_each (CanLaunch g table) ordered scene.fits.rows n l here
 
-    pub can_read : CanRead g table ordered l
-    can_read = at_each (CanRead g table ordered) ordered scene.fits.operands n l here
+    -- each operand of the launch
+    pub uses : All (CanUse g table ordered l) (operands_at g l.row)
+    uses = uses_all g table ordered l (at_each (CanRead g table ordered) ordered scene.fits.operands n l here)
 
     pub place_few : n < 2 ^ 32
     place_few = let a = in_list ordered n l here in let b = scene.few in omega arith
@@ -95,10 +130,10 @@ module _ (g : LaunchGraph) (table : Table) (k : ℕ) (ordered : List Launch) (w 
           plain_operands g l.row no_copy
           ∙ ap (λ b. if b then guard_operands g.guard else row_operands (slice_get g.rows l.row)) is_row ∙ ap row_operands row
 
-      pub instr_is : instr_of g table ordered n l ≡ row_instr g table ordered n l o xs
+      pub instr_is : instr_of g table allocation ordered n l ≡ row_instr g table allocation ordered n l o xs
       instr_is =
-          ap (λ q. option_map_or (copy_instr g table ordered n l) q (option_map_or (λ r. row_instr g table ordered n l r.op r.operands) (slice_get g.rows l.row) (instrs.Beq (reg g table ordered n l (branch_class g table ordered n l)) (pos (length ordered - n))))) no_copy
-          ∙ ap (λ q. option_map_or (λ r. row_instr g table ordered n l r.op r.operands) q (instrs.Beq (reg g table ordered n l (branch_class g table ordered n l)) (pos (length ordered - n)))) row
+          ap (λ q. option_map_or (copy_instr g table allocation ordered n l) q (option_map_or (λ r. row_instr g table allocation ordered n l r.op r.operands) (slice_get g.rows l.row) (instrs.Beq (reg g table allocation ordered n l (branch_class g table allocation ordered n l)) (pos (length ordered - n))))) no_copy
+          ∙ ap (λ q. option_map_or (λ r. row_instr g table allocation ordered n l r.op r.operands) q (instrs.Beq (reg g table allocation ordered n l (branch_class g table allocation ordered n l)) (pos (length ordered - n)))) row
 
       pub value_is : value (class_at g l.row) ≡ row_meaning w (row_with class o name xs) (map value xs)
       value_is =
@@ -120,5 +155,5 @@ module _ (g : LaunchGraph) (table : Table) (k : ℕ) (ordered : List Launch) (w 
       pub can_is : IsSomeAnd (op_instr g o xs) (λ i. MayUse table i l.slot)
       can_is = subst (λ (q : Option InstrKind). IsSomeAnd q (λ i. MayUse table i l.slot)) kind_is can
 
-      pub reads_is : All (λ p. IsFree g p ⊎ IsReadable g table ordered l p.class) (op_operands o xs)
-      reads_is = subst (All (λ p. IsFree g p ⊎ IsReadable g table ordered l p.class)) operands_are can_read
+      pub reads_is : All (CanUse g table ordered l) (op_operands o xs)
+      reads_is = subst (All (CanUse g table ordered l)) operands_are uses

@@ -1,11 +1,11 @@
 -- The step of each kind of word takes what is reached one word further.
-use Rattle.std.proofs.Common.{◌≡◌, ℕ, suc, ◌+◌, ◌-◌, ◌*◌, ◌/◌, ◌<◌, List, [], ◌∷◌, ◌++◌, length, map, take, refl, sym, ◌∙◌, ap, subst, inl, inr, ◌⊎◌, arith, Bool, true, false, pos, Option, Some, None}
+use Rattle.std.proofs.Common.{◌≡◌, ℕ, suc, ◌+◌, ◌-◌, ◌*◌, ◌<◌, List, [], ◌∷◌, ◌++◌, length, map, take, refl, sym, ◌∙◌, ap, subst, inl, inr, ◌⊎◌, arith, Bool, true, false, pos, Some, None}
 use Rattle.std.specs.Prelude.{All, Contains, IsTrue, IsSomeAnd, slice_get, slice_index, is_some, if◌then◌else◌}
 use Rattle.std.specs.Option.{option_map_or}
 use Rattle.std.specs.Int.Bits.{or_zero_l}
 use Rattle.std.proofs.lemmas.Bool.{false≢true}
 use Rattle.std.proofs.lemmas.List.Elements.{All-head, All-tail, All-contains}
-use Rattle.std.proofs.lemmas.Option.{same_Some, none-some}
+use Rattle.std.proofs.lemmas.Option.{same_Some}
 use Rattle.word_ops.specs.declared.sorts.Access.{Access}
 use Rattle.word_ops.specs.declared.operates.Operate.{Operate as OperateOf}
 use Rattle.word_ops.specs.declared.operates.Operate.TheVariants as operates
@@ -23,9 +23,9 @@ use Rattle.alpha_machine.specs.States.{MachineState}
 use Rattle.alpha_machine.specs.Steps.{step, second_value, is_unary, operate_result, address, with_register, next_pc}
 use Rattle.machine_table.specs.Tables.{MayUse}
 use Rattle.graph_meaning.specs.Graphs.{constant_of, row_meaning}
-use Rattle.schedule_meaning.specs.Launches.{launches, gives_word, is_store, is_load, instr_at, is_aligned, is_sum_aligned, op_instr, word_op_instr as launch_instr, class_at, memory_after, IsFree, IsReadable, plain, op_operands, operate_operands, word_op_operands, copy_operands, copied_at}
+use Rattle.schedule_meaning.specs.Launches.{launches, gives_word, is_store, is_load, instr_at, is_aligned, is_sum_aligned, op_instr, word_op_instr as launch_instr, class_at, memory_after, plain, op_operands, operate_operands, copy_operands, copied_at}
 use Rattle.schedule_meaning.specs.declared.schedules.Operand.{Operand}
-use Rattle.register_assign.specs.Listings.{register_at, register_for, second_for, displacement_of, instr_of, row_instr, word_instr, operate_instr, copy_instr, branch_class, reg}
+use Rattle.register_assign.specs.Listings.{register_at, register_for, second_for, displacement_of, instr_of, row_instr, copy_instr, branch_class, reg}
 use Rattle.alpha_encode.specs.declared.instructions.Instr.{Instr}
 use Rattle.alpha_encode.specs.declared.instructions.Instr.TheVariants as instrs
 use Rattle.graph_meaning.specs.declared.graphs.LaunchRow.{LaunchRow}
@@ -33,9 +33,10 @@ use Rattle.graph_meaning.specs.declared.graphs.LaunchGraph.{LaunchGraph}
 use Rattle.machine_table.specs.declared.tables.Table.{Table}
 use Rattle.machine_table.specs.declared.tables.InstrKind.{InstrKind}
 use Rattle.machine_table.specs.declared.tables.InstrKind.TheVariants as kinds
+use Rattle.schedule_meaning.specs.declared.schedules.Allocation.{Allocation}
 use Rattle.schedule_meaning.specs.declared.schedules.Launch.{Launch}
 use Rattle.register_assign.proofs.Reached.{HasReached}
-use Rattle.register_assign.proofs.Scene.{IsScene, can_read, row_with, kind_is, instr_is, value_is, arity_is, operand_value, can_is, reads_is, memory_class_is, place_few}
+use Rattle.register_assign.proofs.Scene.{IsScene, CanUse, uses, row_with, kind_is, instr_is, value_is, arity_is, operand_value, can_is, reads_is, memory_class_is, place_few}
 use Rattle.register_assign.proofs.Operands.{displaced_constant, where_passed, plain_reads, second_reads, address_reads, base_reads, high_base_reads}
 use Rattle.register_assign.proofs.Stores.{memory_found, all_stores_before, latest_push_last}
 use Rattle.register_assign.proofs.Running.{one_word_more, take_more, latest_push, less_or_last}
@@ -103,22 +104,24 @@ bis_value : (v : ℕ) → value_at (ops.Operate operates.Bis) 0 v 0 ≡ v
 unfolding value_at operate_gives bis
 bis_value v = or_zero_l v
 
-module _ (g : LaunchGraph) (table : Table) (k : ℕ) (ordered : List Launch) (w : World) (value : ℕ → Value)
-    (scene : IsScene g table k ordered w value)
-    (n : ℕ) (l : Launch) (s : MachineState) (reached : HasReached g w value ordered n s) (here : slice_get ordered n ≡ Some l) where
+module _ (g : LaunchGraph) (table : Table) (allocation : Allocation) (k : ℕ) (ordered : List Launch) (w : World)
+    (value : ℕ → Value)
+    (scene : IsScene g table allocation k ordered w value)
+    (n : ℕ) (l : Launch) (s : MachineState) (reached : HasReached g allocation w value ordered n s) (here : slice_get ordered n ≡ Some l) where
   abbrev Usable : Operand → Type 0
-  Usable p = IsFree g p ⊎ IsReadable g table ordered l p.class
+  Usable p = CanUse g table ordered l p
 
   abbrev May : InstrKind → Type 0
   May i = MayUse table i l.slot
 
   abbrev Next : MachineState → Type 0
-  Next t = HasReached g w value ordered (n + 1) t
+  Next t = HasReached g allocation w value ordered (n + 1) t
 
   -- a word written to the launch's own register
-  given : (v : ℕ) → IsTrue (launches g gives_word l) → launches g is_store l ≡ false → word v ≡ value (class_at g l.row) → Next (with_register s (register_at g ordered n) v)
+  given : (v : ℕ) → IsTrue (launches g gives_word l) → launches g is_store l ≡ false → word v ≡ value (class_at g l.row) → Next (with_register s (register_at g allocation ordered n) v)
   given v gives no_store is =
-      one_word_more g table k ordered scene.graph scene.proper scene.fits w value n s l v reached here gives no_store is (place_few g table k ordered w value scene n l here)
+      one_word_more g table allocation k ordered scene.graph scene.proper scene.fits scene.is_table w value n s l v
+      reached here gives no_store is (place_few g table allocation k ordered w value scene n l here)
 
   taken : take (n + 1) ordered ≡ take n ordered ++ l ∷ []
   taken = ap (λ m. take m ordered) (let e : n + 1 ≡ suc n = omega arith in e) ∙ take_more ordered n l here
@@ -127,14 +130,14 @@ module _ (g : LaunchGraph) (table : Table) (k : ℕ) (ordered : List Launch) (w 
   no_word : (m : Memory) → launches g gives_word l ≡ false → memory m ≡ value (memory_after g (take (n + 1) ordered)) → Next (record { registers = s.registers; memory = m; pc = next_pc s.pc })
   no_word m gives is =
       let pc : s.pc ≡ 4 * n = reached.pc in
-      let few = place_few g table k ordered w value scene n l here in
+      let few = place_few g table allocation k ordered w value scene n l here in
       record {
         pc = omega arith;
         count = reached.count;
         memory_is = is;
         kept = λ r out none. reached.kept r out (λ j m lt e. none j m (omega arith) e);
-        given = λ j q lt e gq. elim (less_or_last j n lt) [
-          | inl less ↦ reached.given j q less e gq
+        given = λ j q lt e gq lasts. elim (less_or_last j n lt) [
+          | inl less ↦ reached.given j q less e gq (λ i m above below. lasts i m above (omega arith))
           | inr same ↦ (
               let one : q ≡ l = same_Some q l (sym e ∙ ap (slice_get ordered) same ∙ here) in
               absurd (false≢true (sym gives ∙ subst (λ x. launches g gives_word x ≡ true) one gq)))
@@ -145,7 +148,7 @@ module _ (g : LaunchGraph) (table : Table) (k : ℕ) (ordered : List Launch) (w 
   stores m is_one gives is =
       no_word m gives
       (is ∙ sym (ap (λ ls. value (memory_after g ls)) taken
-      ∙ ap (λ o. value (option_map_or (λ m. class_at g m.row) o g.entry)) (latest_push_last (launches g is_store) (take n ordered) l is_one (all_stores_before g ordered scene.order scene.fits.memory scene.fits.destinations n l here (inr is_one)))))
+      ∙ ap (λ o. value (option_map_or (λ m. class_at g m.row) o g.entry)) (latest_push_last (launches g is_store) (take n ordered) l is_one (all_stores_before g ordered scene.order scene.fits.memory allocation scene.fits.destinations n l here (inr is_one)))))
 
   -- a word that neither writes a register nor stores
   pub passed : launches g is_store l ≡ false → launches g gives_word l ≡ false → Next (record { registers = s.registers; memory = s.memory; pc = next_pc s.pc })
@@ -155,31 +158,31 @@ module _ (g : LaunchGraph) (table : Table) (k : ℕ) (ordered : List Launch) (w 
 
   module _ (class : ℕ) (o : Op) (name : List ℕ) (xs : List ℕ) (row : slice_get g.rows l.row ≡ Some (row_with class o name xs)) where
     abbrev kind : instr_at g l.row ≡ op_instr g o xs
-    kind = kind_is g table k ordered w value scene n l here class o name xs row
+    kind = kind_is g table allocation k ordered w value scene n l here class o name xs row
 
     abbrev reads : All Usable (op_operands o xs)
-    reads = reads_is g table k ordered w value scene n l here class o name xs row
+    reads = reads_is g table allocation k ordered w value scene n l here class o name xs row
 
     abbrev can : IsSomeAnd (op_instr g o xs) (λ i. MayUse table i l.slot)
-    can = can_is g table k ordered w value scene n l here class o name xs row
+    can = can_is g table allocation k ordered w value scene n l here class o name xs row
 
     abbrev meant : value (class_at g l.row) ≡ row_meaning w (row_with class o name xs) (map value xs)
-    meant = value_is g table k ordered w value scene n l here class o name xs row
+    meant = value_is g table allocation k ordered w value scene n l here class o name xs row
 
-    abbrev instr : instr_of g table ordered n l ≡ row_instr g table ordered n l o xs
-    instr = instr_is g table k ordered w value scene n l here class o name xs row
+    abbrev instr : instr_of g table allocation ordered n l ≡ row_instr g table allocation ordered n l o xs
+    instr = instr_is g table allocation k ordered w value scene n l here class o name xs row
 
     -- the memory that a load or store finds
     found : IsTrue (launches g is_load l) ⊎ IsTrue (launches g is_store l) → value (slice_index xs 0) ≡ memory s.memory
     found uses =
-        ap value (sym (memory_class_is g table k ordered w value scene n l here class o name xs row) ∙ memory_found g ordered scene.order scene.fits.memory scene.fits.destinations n l here uses)
+        ap value (sym (memory_class_is g table allocation k ordered w value scene n l here class o name xs row) ∙ memory_found g ordered scene.order scene.fits.memory allocation scene.fits.destinations n l here uses)
         ∙ sym reached.memory_is
 
     does : (test : InstrKind → Bool) (b : Bool) → option_map_or test (op_instr g o xs) false ≡ b → launches g test l ≡ b
     does test b h = ap (λ q. option_map_or test q false) kind ∙ h
 
   abbrev now : Instr
-  now = instr_of g table ordered n l
+  now = instr_of g table allocation ordered n l
 
   -- ---- lda and ldah
 
@@ -189,8 +192,8 @@ module _ (g : LaunchGraph) (table : Table) (k : ℕ) (ordered : List Launch) (w 
         let c = displaced_constant g d kinds.Lda (λ i. MayUse table i l.slot) (can class (op.Word ops.Lda) name (x ∷ d ∷ []) row) in
         let test : (f : InstrKind → Bool) → launches g f l ≡ f kinds.Lda = λ f. does class (op.Word ops.Lda) name (x ∷ d ∷ []) row f (f kinds.Lda) (ap (λ q. option_map_or f (if is_some q then Some kinds.Lda else None) false) c.1) in
         subst (λ i. Next (step i s)) (sym (instr class (op.Word ops.Lda) name (x ∷ d ∷ []) row))
-        (given (address (slice_index s.registers (register_for g table ordered l x)) 1 (displacement_of g d)) (test gives_word) (test is_store)
-        (ap word (base_reads g table k ordered w value scene n l s reached here x d c.0 (All-head Usable (plain x) [] (reads class (op.Word ops.Lda) name (x ∷ d ∷ []) row)) c.1)
+        (given (address (slice_index s.registers (register_for g table allocation ordered l x)) 1 (displacement_of g d)) (test gives_word) (test is_store)
+        (ap word (base_reads g table allocation k ordered w value scene n l s reached here x d c.0 (All-head Usable (plain x) [] (reads class (op.Word ops.Lda) name (x ∷ d ∷ []) row)) c.1)
         ∙ ap word (sym (lda_value (as_word (value x)) (as_word (value d)) 0))
         ∙ sym (meant class (op.Word ops.Lda) name (x ∷ d ∷ []) row)))
 
@@ -200,8 +203,8 @@ module _ (g : LaunchGraph) (table : Table) (k : ℕ) (ordered : List Launch) (w 
         let c = displaced_constant g d kinds.Ldah (λ i. MayUse table i l.slot) (can class (op.Word ops.Ldah) name (x ∷ d ∷ []) row) in
         let test : (f : InstrKind → Bool) → launches g f l ≡ f kinds.Ldah = λ f. does class (op.Word ops.Ldah) name (x ∷ d ∷ []) row f (f kinds.Ldah) (ap (λ q. option_map_or f (if is_some q then Some kinds.Ldah else None) false) c.1) in
         subst (λ i. Next (step i s)) (sym (instr class (op.Word ops.Ldah) name (x ∷ d ∷ []) row))
-        (given (address (slice_index s.registers (register_for g table ordered l x)) 65536 (displacement_of g d)) (test gives_word) (test is_store)
-        (ap word (high_base_reads g table k ordered w value scene n l s reached here x d c.0 (All-head Usable (plain x) [] (reads class (op.Word ops.Ldah) name (x ∷ d ∷ []) row)) c.1)
+        (given (address (slice_index s.registers (register_for g table allocation ordered l x)) 65536 (displacement_of g d)) (test gives_word) (test is_store)
+        (ap word (high_base_reads g table allocation k ordered w value scene n l s reached here x d c.0 (All-head Usable (plain x) [] (reads class (op.Word ops.Ldah) name (x ∷ d ∷ []) row)) c.1)
         ∙ ap word (sym (ldah_value (as_word (value x)) (as_word (value d)) 0))
         ∙ sym (meant class (op.Word ops.Ldah) name (x ∷ d ∷ []) row)))
 
@@ -215,8 +218,8 @@ module _ (g : LaunchGraph) (table : Table) (k : ℕ) (ordered : List Launch) (w 
         let test : (f : InstrKind → Bool) → launches g f l ≡ f (kinds.Load access) = λ f.
         does class (op.Select access) name (m ∷ a ∷ []) row f (f (kinds.Load access)) (tests_if (is_aligned g access (m ∷ a ∷ [])) (kinds.Load access) enough f) in
         subst (λ i. Next (step i s)) (sym (instr class (op.Select access) name (m ∷ a ∷ []) row))
-        (given (loaded access s.memory (address (slice_index s.registers (register_for g table ordered l a)) 1 (pos 0))) (test gives_word) (test is_store)
-        (ap (λ b. word (loaded access s.memory b)) (address_reads g table k ordered w value scene n l s reached here a (All-head Usable (plain a) [] (reads class (op.Select access) name (m ∷ a ∷ []) row)) (operand_value g table k ordered w value scene n l here class (op.Select access) name (m ∷ a ∷ []) row 1 (omega arith)))
+        (given (loaded access s.memory (address (slice_index s.registers (register_for g table allocation ordered l a)) 1 (pos 0))) (test gives_word) (test is_store)
+        (ap (λ b. word (loaded access s.memory b)) (address_reads g table allocation k ordered w value scene n l s reached here a (All-head Usable (plain a) [] (reads class (op.Select access) name (m ∷ a ∷ []) row)) (operand_value g table allocation k ordered w value scene n l here class (op.Select access) name (m ∷ a ∷ []) row 1 (omega arith)))
         ∙ ap (λ v. word (loaded access (as_memory v) (as_word (value a)))) (sym (found class (op.Select access) name (m ∷ a ∷ []) row (inl (test is_load))))
         ∙ sym (meant class (op.Select access) name (m ∷ a ∷ []) row)))
 
@@ -231,8 +234,8 @@ module _ (g : LaunchGraph) (table : Table) (k : ℕ) (ordered : List Launch) (w 
         does class (op.Load access) name (m ∷ x ∷ d ∷ []) row f (f (kinds.Load access))
         (tests_if_both (is_sum_aligned g access (m ∷ x ∷ d ∷ [])) (is_some (constant_of g d)) (kinds.Load access) p.0 (ap is_some c.1) f) in
         subst (λ i. Next (step i s)) (sym (instr class (op.Load access) name (m ∷ x ∷ d ∷ []) row))
-        (given (loaded access s.memory (address (slice_index s.registers (register_for g table ordered l x)) 1 (displacement_of g d))) (test gives_word) (test is_store)
-        (ap (λ b. word (loaded access s.memory b)) (base_reads g table k ordered w value scene n l s reached here x d c.0 (All-head Usable (plain x) [] (reads class (op.Load access) name (m ∷ x ∷ d ∷ []) row)) c.1)
+        (given (loaded access s.memory (address (slice_index s.registers (register_for g table allocation ordered l x)) 1 (displacement_of g d))) (test gives_word) (test is_store)
+        (ap (λ b. word (loaded access s.memory b)) (base_reads g table allocation k ordered w value scene n l s reached here x d c.0 (All-head Usable (plain x) [] (reads class (op.Load access) name (m ∷ x ∷ d ∷ []) row)) c.1)
         ∙ ap word (load_is access s.memory (as_word (value x)) (as_word (value d)))
         ∙ ap (λ v. word (load access (as_memory v) (as_word (value x)) (as_word (value d)))) (sym (found class (op.Load access) name (m ∷ x ∷ d ∷ []) row (inl (test is_load))))
         ∙ sym (meant class (op.Load access) name (m ∷ x ∷ d ∷ []) row)))
@@ -248,9 +251,9 @@ module _ (g : LaunchGraph) (table : Table) (k : ℕ) (ordered : List Launch) (w 
         does class (op.Store access) name (m ∷ a ∷ v ∷ []) row f (f (kinds.Store access)) (tests_if (is_aligned g access (m ∷ a ∷ v ∷ [])) (kinds.Store access) enough f) in
         let both = reads class (op.Store access) name (m ∷ a ∷ v ∷ []) row in
         subst (λ i. Next (step i s)) (sym (instr class (op.Store access) name (m ∷ a ∷ v ∷ []) row))
-        (stores (stored access s.memory (address (slice_index s.registers (register_for g table ordered l a)) 1 (pos 0)) (slice_index s.registers (register_for g table ordered l v))) (test is_store) (test gives_word)
-        (ap (λ b. memory (stored access s.memory b (slice_index s.registers (register_for g table ordered l v)))) (address_reads g table k ordered w value scene n l s reached here a (All-head Usable (plain a) (plain v ∷ []) both) (operand_value g table k ordered w value scene n l here class (op.Store access) name (m ∷ a ∷ v ∷ []) row 1 (omega arith)))
-        ∙ ap (λ u. memory (stored access s.memory (as_word (value a)) (as_word u))) (plain_reads g table k ordered w value scene n l s reached here v (All-head Usable (plain v) [] (All-tail Usable (plain a) (plain v ∷ []) both)))
+        (stores (stored access s.memory (address (slice_index s.registers (register_for g table allocation ordered l a)) 1 (pos 0)) (slice_index s.registers (register_for g table allocation ordered l v))) (test is_store) (test gives_word)
+        (ap (λ b. memory (stored access s.memory b (slice_index s.registers (register_for g table allocation ordered l v)))) (address_reads g table allocation k ordered w value scene n l s reached here a (All-head Usable (plain a) (plain v ∷ []) both) (operand_value g table allocation k ordered w value scene n l here class (op.Store access) name (m ∷ a ∷ v ∷ []) row 1 (omega arith)))
+        ∙ ap (λ u. memory (stored access s.memory (as_word (value a)) (as_word u))) (plain_reads g table allocation k ordered w value scene n l s reached here v (All-head Usable (plain v) [] (All-tail Usable (plain a) (plain v ∷ []) both)))
         ∙ ap (λ u. memory (stored access (as_memory u) (as_word (value a)) (as_word (value v)))) (sym (found class (op.Store access) name (m ∷ a ∷ v ∷ []) row (inr (test is_store))))
         ∙ sym (meant class (op.Store access) name (m ∷ a ∷ v ∷ []) row)))
 
@@ -266,10 +269,10 @@ module _ (g : LaunchGraph) (table : Table) (k : ℕ) (ordered : List Launch) (w 
         (tests_if_both (is_sum_aligned g access (m ∷ x ∷ d ∷ v ∷ [])) (is_some (constant_of g d)) (kinds.Store access) p.0 (ap is_some c.1) f) in
         let both = reads class (op.Put access) name (m ∷ x ∷ d ∷ v ∷ []) row in
         subst (λ i. Next (step i s)) (sym (instr class (op.Put access) name (m ∷ x ∷ d ∷ v ∷ []) row))
-        (stores (stored access s.memory (address (slice_index s.registers (register_for g table ordered l x)) 1 (displacement_of g d)) (slice_index s.registers (register_for g table ordered l v))) (test is_store) (test gives_word)
-        (ap (λ b. memory (stored access s.memory b (slice_index s.registers (register_for g table ordered l v)))) (base_reads g table k ordered w value scene n l s reached here x d c.0 (All-head Usable (plain x) (plain v ∷ []) both) c.1)
-        ∙ ap memory (put_is access s.memory (as_word (value x)) (as_word (value d)) (slice_index s.registers (register_for g table ordered l v)))
-        ∙ ap (λ u. memory (put access s.memory (as_word (value x)) (as_word (value d)) (as_word u))) (plain_reads g table k ordered w value scene n l s reached here v (All-head Usable (plain v) [] (All-tail Usable (plain x) (plain v ∷ []) both)))
+        (stores (stored access s.memory (address (slice_index s.registers (register_for g table allocation ordered l x)) 1 (displacement_of g d)) (slice_index s.registers (register_for g table allocation ordered l v))) (test is_store) (test gives_word)
+        (ap (λ b. memory (stored access s.memory b (slice_index s.registers (register_for g table allocation ordered l v)))) (base_reads g table allocation k ordered w value scene n l s reached here x d c.0 (All-head Usable (plain x) (plain v ∷ []) both) c.1)
+        ∙ ap memory (put_is access s.memory (as_word (value x)) (as_word (value d)) (slice_index s.registers (register_for g table allocation ordered l v)))
+        ∙ ap (λ u. memory (put access s.memory (as_word (value x)) (as_word (value d)) (as_word u))) (plain_reads g table allocation k ordered w value scene n l s reached here v (All-head Usable (plain v) [] (All-tail Usable (plain x) (plain v ∷ []) both)))
         ∙ ap (λ u. memory (put access (as_memory u) (as_word (value x)) (as_word (value d)) (as_word (value v)))) (sym (found class (op.Put access) name (m ∷ x ∷ d ∷ v ∷ []) row (inr (test is_store))))
         ∙ sym (meant class (op.Put access) name (m ∷ x ∷ d ∷ v ∷ []) row)))
 
@@ -285,11 +288,11 @@ module _ (g : LaunchGraph) (table : Table) (k : ℕ) (ordered : List Launch) (w 
       one_step =
           let test : (f : InstrKind → Bool) → launches g f l ≡ f (kinds.Operate o) = operate_tests class name (x ∷ []) row in
           let usable : All Usable (operate_operands (x ∷ [])) = reads class (op.Word (ops.Operate o)) name (x ∷ []) row in
-          let second : ℕ = second_value (second_for g table ordered l x) s.registers in
+          let second : ℕ = second_value (second_for g table allocation ordered l x) s.registers in
           subst (λ i. Next (step i s)) (sym (instr class (op.Word (ops.Operate o)) name (x ∷ []) row))
           (given (operate_result o (slice_index s.registers 31) second) (test gives_word) (test is_store)
           (ap (λ b. word (if b then value_at (ops.Operate o) second 0 0 else value_at (ops.Operate o) (slice_index s.registers 31) second 0)) unary
-          ∙ ap (λ v. word (value_at (ops.Operate o) (as_word v) 0 0)) (second_reads g table k ordered w value scene n l s reached here x (All-head Usable (as_second_operand x) [] usable))
+          ∙ ap (λ v. word (value_at (ops.Operate o) (as_word v) 0 0)) (second_reads g table allocation k ordered w value scene n l s reached here x (All-head Usable (as_second_operand x) [] usable))
           ∙ sym (meant class (op.Word (ops.Operate o)) name (x ∷ []) row)))
 
     module _ (class x y : ℕ) (name : List ℕ) (row : slice_get g.rows l.row ≡ Some (row_with class (op.Word (ops.Operate o)) name (x ∷ y ∷ []))) (binary : is_unary o ≡ false) where
@@ -297,13 +300,13 @@ module _ (g : LaunchGraph) (table : Table) (k : ℕ) (ordered : List Launch) (w 
       two_step =
           let test : (f : InstrKind → Bool) → launches g f l ≡ f (kinds.Operate o) = operate_tests class name (x ∷ y ∷ []) row in
           let usable : All Usable (operate_operands (x ∷ y ∷ [])) = reads class (op.Word (ops.Operate o)) name (x ∷ y ∷ []) row in
-          let first : ℕ = slice_index s.registers (register_for g table ordered l x) in
-          let second : ℕ = second_value (second_for g table ordered l y) s.registers in
+          let first : ℕ = slice_index s.registers (register_for g table allocation ordered l x) in
+          let second : ℕ = second_value (second_for g table allocation ordered l y) s.registers in
           subst (λ i. Next (step i s)) (sym (instr class (op.Word (ops.Operate o)) name (x ∷ y ∷ []) row))
           (given (operate_result o first second) (test gives_word) (test is_store)
           (ap (λ b. word (if b then value_at (ops.Operate o) second 0 0 else value_at (ops.Operate o) first second 0)) binary
-          ∙ ap (λ v. word (value_at (ops.Operate o) (as_word v) second 0)) (plain_reads g table k ordered w value scene n l s reached here x (All-head Usable (plain x) (as_second_operand y ∷ []) usable))
-          ∙ ap (λ v. word (value_at (ops.Operate o) (as_word (value x)) (as_word v) 0)) (second_reads g table k ordered w value scene n l s reached here y (All-head Usable (as_second_operand y) [] (All-tail Usable (plain x) (as_second_operand y ∷ []) usable)))
+          ∙ ap (λ v. word (value_at (ops.Operate o) (as_word v) second 0)) (plain_reads g table allocation k ordered w value scene n l s reached here x (All-head Usable (plain x) (as_second_operand y ∷ []) usable))
+          ∙ ap (λ v. word (value_at (ops.Operate o) (as_word (value x)) (as_word v) 0)) (second_reads g table allocation k ordered w value scene n l s reached here y (All-head Usable (as_second_operand y) [] (All-tail Usable (plain x) (as_second_operand y ∷ []) usable)))
           ∙ sym (meant class (op.Word (ops.Operate o)) name (x ∷ y ∷ []) row)))
 
   -- ---- each row that can be launched
@@ -316,7 +319,7 @@ module _ (g : LaunchGraph) (table : Table) (k : ℕ) (ordered : List Launch) (w 
     as_list o ys e row = subst (Row o) e row
 
     arity : (o : Op) → Row o xs → length xs ≡ arity_of_op o
-    arity o row = arity_is g table k ordered w value scene n l here class o name xs row
+    arity o row = arity_is g table allocation k ordered w value scene n l here class o name xs row
 
     operate_step : (o : OperateOf) → Row (op.Word (ops.Operate o)) xs → Next (step now s)
     operate_step o row =
@@ -349,26 +352,27 @@ module _ (g : LaunchGraph) (table : Table) (k : ℕ) (ordered : List Launch) (w 
   -- ---- copies
 
   module _ (class : ℕ) (copied : copied_at g l.row ≡ Some class) where
-    copy_is : instr_of g table ordered n l ≡ copy_instr g table ordered n l class
-    copy_is = ap (λ q. option_map_or (copy_instr g table ordered n l) q (option_map_or (λ r. row_instr g table ordered n l r.op r.operands) (slice_get g.rows l.row) (instrs.Beq (reg g table ordered n l (branch_class g table ordered n l)) (pos (length ordered - n))))) copied
+    copy_is : instr_of g table allocation ordered n l ≡ copy_instr g table allocation ordered n l class
+    copy_is = ap (λ q. option_map_or (copy_instr g table allocation ordered n l) q (option_map_or (λ r. row_instr g table allocation ordered n l r.op r.operands) (slice_get g.rows l.row) (instrs.Beq (reg g table allocation ordered n l (branch_class g table allocation ordered n l)) (pos (length ordered - n))))) copied
 
     copy_usable : All Usable (copy_operands class)
-    copy_usable = subst (All Usable) (copy_reads g l.row class copied) (can_read g table k ordered w value scene n l here)
+    copy_usable =
+        subst (All Usable) (copy_reads g l.row class copied) (uses g table allocation k ordered w value scene n l here)
 
     not_31 : ¬ Contains g.pool 31
     not_31 h = let low : 31 < 31 = All-contains (λ r. r < 31) g.pool 31 (pool_low g scene.proper) h in absurd (omega arith)
 
     zero_read : slice_index s.registers 31 ≡ 0
-    zero_read = reached.kept 31 not_31 (λ j m lt e. none_31 g table k ordered scene.graph scene.proper scene.fits j m e) ∙ scene.world.zero_register
+    zero_read = reached.kept 31 not_31 (λ j m lt e. none_31 g table allocation k ordered scene.graph scene.proper scene.fits j m e) ∙ scene.world.zero_register
 
     -- a copy gives the value of its class
     pub copy_step : Next (step now s)
     copy_step =
         let test : (f : InstrKind → Bool) → launches g f l ≡ f (kinds.Operate operates.Bis) = λ f. ap (λ q. option_map_or f q false) (copy_kind g l.row class copied) in
-        let second : ℕ = second_value (second_for g table ordered l class) s.registers in
+        let second : ℕ = second_value (second_for g table allocation ordered l class) s.registers in
         subst (λ i. Next (step i s)) (sym copy_is)
         (given (operate_result operates.Bis (slice_index s.registers 31) second) (test gives_word) (test is_store)
         (ap (λ a. word (value_at (ops.Operate operates.Bis) a second 0)) zero_read
         ∙ ap word (bis_value second)
-        ∙ second_reads g table k ordered w value scene n l s reached here class (All-head Usable (as_second_operand class) [] copy_usable)
+        ∙ second_reads g table allocation k ordered w value scene n l s reached here class (All-head Usable (as_second_operand class) [] copy_usable)
         ∙ ap value (sym (copy_class g l.row class copied))))

@@ -7,8 +7,10 @@ use Rattle.std.proofs.lemmas.Bool.Decides.{Decides-ltb, not_from_Decides}
 use Rattle.std.proofs.lemmas.List.Elements.{All-head, All-tail}
 use Rattle.std.proofs.lemmas.Option.{slice_get-get_or, get_or_from_slice_get, same_Some, none-some}
 use Rattle.schedule_meaning.specs.Launches.{launches, is_store, class_at, latest, later, memory_after, memory_class_at, StandsBefore, group_of}
-use Rattle.schedule_meaning.specs.Fits.{CanGo, IsLeft, UsesMemory, KeepsMemory}
+use Rattle.schedule_meaning.specs.Fits.{CanGo, MayLoadOver, IsLeft, UsesMemory, KeepsMemory}
 use Rattle.graph_meaning.specs.declared.graphs.LaunchGraph.{LaunchGraph}
+use Rattle.schedule_meaning.specs.declared.schedules.Allocation.{Allocation}
+use Rattle.schedule_meaning.specs.declared.schedules.Allocation.TheVariants.{Block, Live}
 use Rattle.schedule_meaning.specs.declared.schedules.Launch.{Launch}
 use Rattle.schedule_meaning.proofs.Rules.{at_each, all_at, at_pair, in_list}
 use Rattle.schedule_meaning.proofs.Memory.{IsLatest, latest_is, left_once}
@@ -54,21 +56,34 @@ module _ (test : Launch → Bool) where
 -- ---- at a load or store
 
 module _ (g : LaunchGraph) (ordered : List Launch) (order : AllPairs (StandsBefore g) ordered) (memory : KeepsMemory g ordered)
-    (goes : All (CanGo g) ordered)
+    (allocation : Allocation) (goes : All (CanGo g allocation ordered) ordered)
     (n : ℕ) (l : Launch) (here : slice_get ordered n ≡ Some l) (uses : UsesMemory g l) where
   one_of_three : (a b : ℕ) → (a < b) ⊎ (b < a) ⊎ (a ≡ b)
   one_of_three a b = grind arith
 
+  less : {a b : ℕ} → a ≤ b → ¬ (a ≡ b) → a < b
+  less le other = grind (arith, le, other)
+
+  -- beside a load that overwrites an input there is no store
+  none_beside : (way : Allocation) → MayLoadOver g way ordered l → (j : ℕ) (m : Launch) → slice_get ordered j ≡ Some m
+      → IsTrue (launches g is_store m) → ¬ (m.cycle ≡ l.cycle)
+  none_beside Block over j m e store = absurd over
+  none_beside Live over j m e store =
+      at_each (λ m. IsTrue (launches g is_store m) → ¬ (m.cycle ≡ l.cycle)) ordered over j m e store
+
   by_use : UsesMemory g l → (j : ℕ) (m : Launch) → j < n → slice_get ordered j ≡ Some m → IsTrue (launches g is_store m) → m.cycle < l.cycle
   by_use (inl load) j m lt e store =
-      earlier_cycle g ordered order j n m l lt e here (let a : group_of g l < 3 = load_group g l (at_each (CanGo g) ordered goes n l here) load in let b : group_of g m ≡ 3 = store_group g m (at_each (CanGo g) ordered goes j m e) store in omega arith)
+      elim (load_group g l allocation ordered (at_each (CanGo g allocation ordered) ordered goes n l here) load) [
+        | inl low ↦
+            earlier_cycle g ordered order j n m l lt e here (let b : group_of g m ≡ 3 =
+            store_group g m allocation ordered (at_each (CanGo g allocation ordered) ordered goes j m e)
+            store in let a : group_of g l < 3 = low in omega arith)
+        | inr over ↦
+            less (not_after g ordered order j n m l lt e here) (none_beside allocation over j m e store)
+      ]
   by_use (inr own) j m lt e store =
-      let le : m.cycle ≤ l.cycle = not_after g ordered order j n m l lt e here in
       let other : ¬ (m.cycle ≡ l.cycle) = at_pair (λ a b. IsTrue (launches g is_store a) → IsTrue (launches g is_store b) → ¬ (a.cycle ≡ b.cycle)) ordered memory.single j n m l lt e here store own in
-      less le other
-    where
-      less : {a b : ℕ} → a ≤ b → ¬ (a ≡ b) → a < b
-      less le other = grind (arith, le, other)
+      less (not_after g ordered order j n m l lt e here) other
 
   -- the stores before it are those of earlier cycles
   pub store_before : (j : ℕ) (m : Launch) → j < n → slice_get ordered j ≡ Some m → IsTrue (launches g is_store m) → m.cycle < l.cycle

@@ -11,13 +11,14 @@ use Rattle.graph_meaning.specs.declared.graphs.LaunchGraph.{LaunchGraph}
 use Rattle.register_assign.specs.declared.listings.Item.{Item}
 use Rattle.register_assign.specs.declared.listings.Where.{Where}
 use Rattle.machine_table.specs.declared.tables.Table.{Table}
+use Rattle.schedule_meaning.specs.declared.schedules.Allocation.{Allocation}
 use Rattle.schedule_meaning.specs.declared.schedules.Launch.{Launch}
 
 -- these are the items and places of the schedule, and no others are
-pub record IsTheListing (g : LaunchGraph) (table : Table) (ls : List Launch) (items : List Item)
+pub record IsTheListing (g : LaunchGraph) (table : Table) (a : Allocation) (ls : List Launch) (items : List Item)
     (wheres : List Where) : Type 0 where
-  pub is : IsListing g table ls items wheres
-  pub only : (others : List Item) (places : List Where) → IsListing g table ls others places
+  pub is : IsListing g table a ls items wheres
+  pub only : (others : List Item) (places : List Where) → IsListing g table a ls others places
       → (others ≡ items) × (places ≡ wheres)
 
 -- each instruction has a word

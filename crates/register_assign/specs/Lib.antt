@@ -1,3 +1,4 @@
+pub mod PoolPlaces
 pub mod Listings
 pub mod Obeys
 pub mod Outcomes

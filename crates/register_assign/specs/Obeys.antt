@@ -1,6 +1,6 @@
 -- When instructions with cycles and slots keep to a table in k cycles.
 -- Source: this project, over the pipes and clusters of the Alpha 21264 Hardware Reference Manual.
-use Rattle.std.specs.Prelude.{◌≡◌, ℕ, ◌+◌, ◌<◌, ◌≤◌, List, [], ◌∷◌, Option, Some, None, unwrap_or, All, AllPairs, IsTrue, Bool, false, slice_get, if◌then◌else◌, Contains}
+use Rattle.std.specs.Prelude.{◌≡◌, ℕ, ◌+◌, ◌<◌, ◌≤◌, List, [], ◌∷◌, Option, Some, None, unwrap_or, All, AllPairs, IsTrue, Bool, slice_get, if◌then◌else◌, Contains}
 use Rattle.machine_table.specs.Tables.{MayUse, latency_of, cluster_of, ready}
 use Rattle.schedule_meaning.specs.Launches.{is_load, is_store}
 use Rattle.alpha_encode.specs.Codes.{is_unary}

@@ -1,5 +1,5 @@
 // The words of launches that stand in word order, and the places of the targets.
-ghost use Rattle.std.specs.Prelude.{◌≡◌, ◌≤◌, ◌<◌, ◌^◌, ◌++◌, ◌∷◌, [], length, slice_index, IfOk, OnOk};
+ghost use Rattle.std.specs.Prelude.{◌≡◌, ◌<◌, ◌^◌, ◌++◌, ◌∷◌, [], length, slice_index, IfOk, OnOk};
 ghost use Rattle.std.specs.Option.{option_map_or};
 ghost use Rattle.register_assign.specs.Listings as listings;
 ghost use Rattle.register_assign.specs.Places.{places};
@@ -50,24 +50,24 @@ fn branch_class(graph: &LaunchGraph) -> u32
 impl<'a> Ordered<'a> {
     /// The register from which the launch at a place reads a class's word.
     fn reg(&self, place: usize, launch: Launch, class: u32) -> u8
-        ensures { result ≡ listings.reg self.now.graph.now self.now.table.now self.now.launches.now
-            place launch class }
+        ensures { result ≡ listings.reg self.now.graph.now self.now.table.now self.now.allocation
+            self.now.launches.now place launch class }
     {
         self.register_by(Some(launch), class)
     }
 
     /// The register that the operand at a place of the row's operands is read from.
     fn reg_at(&self, place: usize, launch: Launch, operands: &[u32], at: usize) -> u8
-        ensures { result ≡ listings.reg self.now.graph.now self.now.table.now self.now.launches.now
-            place launch (slice_index operands.now at) }
+        ensures { result ≡ listings.reg self.now.graph.now self.now.table.now self.now.allocation
+            self.now.launches.now place launch (slice_index operands.now at) }
     {
         self.register_by(Some(launch), operand_class(operands, at))
     }
 
     fn operate_instr(&self, place: usize, launch: Launch, op: Operate, operands: &[u32]) -> Instr
-        requires { place ≤ length self.now.launches.now }
-        ensures { result ≡ listings.operate_instr self.now.graph.now self.now.table.now self.now.launches.now
-            place launch op operands.now }
+        requires { place < length self.now.launches.now }
+        ensures { result ≡ listings.operate_instr self.now.graph.now self.now.table.now self.now.allocation
+            self.now.launches.now place launch op operands.now }
     {
         let rc = self.register_at(place);
         if operands.len() == 0 {
@@ -95,9 +95,9 @@ impl<'a> Ordered<'a> {
     }
 
     fn word_instr(&self, place: usize, launch: Launch, op: WordOp, operands: &[u32]) -> Instr
-        requires { place ≤ length self.now.launches.now }
-        ensures { result ≡ listings.word_instr self.now.graph.now self.now.table.now self.now.launches.now
-            place launch op operands.now }
+        requires { place < length self.now.launches.now }
+        ensures { result ≡ listings.word_instr self.now.graph.now self.now.table.now self.now.allocation
+            self.now.launches.now place launch op operands.now }
     {
         match op {
             WordOp::Lda => Instr::Lda {
@@ -116,9 +116,9 @@ impl<'a> Ordered<'a> {
     }
 
     fn row_instr(&self, place: usize, launch: Launch, op: Op, operands: &[u32]) -> Instr
-        requires { place ≤ length self.now.launches.now }
-        ensures { result ≡ listings.row_instr self.now.graph.now self.now.table.now self.now.launches.now
-            place launch op operands.now }
+        requires { place < length self.now.launches.now }
+        ensures { result ≡ listings.row_instr self.now.graph.now self.now.table.now self.now.allocation
+            self.now.launches.now place launch op operands.now }
     {
         match op {
             Op::Word(op) => self.word_instr(place, launch, op, operands),
@@ -152,10 +152,10 @@ impl<'a> Ordered<'a> {
 
     /// The instruction of a row's launch, or of the branch, which leads to one word behind the last.
     fn plain_instr(&self, place: usize, launch: Launch) -> Instr
-        requires place { place ≤ length self.now.launches.now }
+        requires place { place < length self.now.launches.now }
         requires few { length self.now.launches.now < 2 ^ 29 }
-        ensures { result ≡ listings.plain_instr self.now.graph.now self.now.table.now self.now.launches.now
-            place launch }
+        ensures { result ≡ listings.plain_instr self.now.graph.now self.now.table.now self.now.allocation
+            self.now.launches.now place launch }
     {
         match self.graph.rows.as_slice().get(launch.row as usize) {
             Some(row) => self.row_instr(place, launch, row.op, row.operands.as_slice()),
@@ -167,9 +167,9 @@ impl<'a> Ordered<'a> {
     }
 
     fn copy_instr(&self, place: usize, launch: Launch, class: u32) -> Instr
-        requires { place ≤ length self.now.launches.now }
-        ensures { result ≡ listings.copy_instr self.now.graph.now self.now.table.now self.now.launches.now
-            place launch class }
+        requires { place < length self.now.launches.now }
+        ensures { result ≡ listings.copy_instr self.now.graph.now self.now.table.now self.now.allocation
+            self.now.launches.now place launch class }
     {
         Instr::Operate {
             op: Operate::Bis,
@@ -181,10 +181,10 @@ impl<'a> Ordered<'a> {
 
     /// The instruction of the launch at a place.
     fn instr_of(&self, place: usize, launch: Launch) -> Instr
-        requires place { place ≤ length self.now.launches.now }
+        requires place { place < length self.now.launches.now }
         requires few { length self.now.launches.now < 2 ^ 29 }
-        ensures { result ≡ listings.instr_of self.now.graph.now self.now.table.now self.now.launches.now
-            place launch }
+        ensures { result ≡ listings.instr_of self.now.graph.now self.now.table.now self.now.allocation
+            self.now.launches.now place launch }
     {
         match copied_at(self.graph, launch.row) {
             Some(class) => self.copy_instr(place, launch, class),
@@ -196,7 +196,7 @@ impl<'a> Ordered<'a> {
     pub(crate) fn items_of(&self, alloc: Global) -> Result<Items<Item>, NoMemory>
         requires { length self.now.launches.now < 2 ^ 29 }
         ensures { IfOk result (λ items. items
-            ≡ listings.items_of self.now.graph.now self.now.table.now self.now.launches.now) }
+            ≡ listings.items_of self.now.graph.now self.now.table.now self.now.allocation self.now.launches.now) }
     {
         let mut items = Items::new(alloc);
         for (place, launch) in self.launches.iter().enumerate() {
@@ -211,8 +211,8 @@ impl<'a> Ordered<'a> {
 
     /// The register that the target is in at the end.
     fn target_place(&self, set: &SetClass) -> u8
-        ensures { result ≡ listings.target_place self.now.graph.now self.now.table.now self.now.launches.now
-            set.now }
+        ensures { result ≡ listings.target_place self.now.graph.now self.now.table.now self.now.allocation
+            self.now.launches.now set.now }
     {
         match set.pin {
             Some(pin) => pin,
@@ -223,7 +223,8 @@ impl<'a> Ordered<'a> {
     /// Puts the set's place at the end; the memory has none.
     fn push_place(&self, wheres: &mut Items<Where>, set: &SetClass) -> Result<(), NoMemory>
         ensures { OnOk result (wheres.new ≡ wheres.old
-            ++ places self.now.graph.now self.now.table.now self.now.launches.now (set.now ∷ [])) }
+            ++ places self.now.graph.now self.now.table.now self.now.allocation self.now.launches.now
+            (set.now ∷ [])) }
     {
         if set.is_memory() {
             return Ok(());
@@ -237,7 +238,7 @@ impl<'a> Ordered<'a> {
     #[tactic(auto, using(crate::proofs::Listed::places_more))]
     pub(crate) fn wheres_of(&self, alloc: Global) -> Result<Items<Where>, NoMemory>
         ensures { IfOk result (λ wheres. wheres
-            ≡ listings.wheres_of self.now.graph.now self.now.table.now self.now.launches.now) }
+            ≡ listings.wheres_of self.now.graph.now self.now.table.now self.now.allocation self.now.launches.now) }
     {
         let mut wheres = Items::new(alloc);
         for set in self.graph.sets.as_slice() {

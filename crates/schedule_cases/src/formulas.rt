@@ -9,7 +9,7 @@ use case_inputs::{put_formula, question_in};
 use cycle_encoding::{EncodeFault, Encoded, Encoding, encode, encode_as};
 use graph_meaning::LaunchGraph;
 use machine_table::Table;
-use order_encoding::{add_guard, add_memory, add_pins, add_pool, full, full_as};
+use order_encoding::{add_capacity, add_guard, add_memory, add_pins, add_pool, full, full_as};
 use std::alloc::Global;
 
 /// The whole formula, part by part.
@@ -28,7 +28,8 @@ fn by_parts(
     let memory = add_memory(alloc, cycles, graph, table)?;
     let guard = add_guard(alloc, memory, graph, table)?;
     let pool = add_pool(alloc, guard, graph, table)?;
-    add_pins(alloc, pool, graph, table)
+    let pins = add_pins(alloc, pool, graph, table)?;
+    add_capacity(alloc, pins, graph, table)
 }
 
 /// Input: a machine form, which may be left out, a graph's lines, and a line `cycles K`. Answers with the first
@@ -47,7 +48,7 @@ pub(crate) fn formulas(alloc: Global, input: &[u8]) -> Result<Vec<u8>, Trouble>
 }
 
 /// Input as for `formulas`. Answers with the first families of an encoding and with all of them at once, and for the
-/// encoding with pins also with all of them part by part.
+/// encodings with pins also with all of them part by part.
 pub(crate) fn formulas_as(
     alloc: Global,
     encoding: Encoding,
@@ -63,7 +64,7 @@ pub(crate) fn formulas_as(
         encode_as(alloc, encoding, graph, table, cycles),
     )?;
     put_formula(&mut report, full_as(alloc, encoding, graph, table, cycles))?;
-    if encoding == Encoding::Pinned {
+    if matches!(encoding, Encoding::Pinned | Encoding::Live) {
         put_formula(&mut report, by_parts(alloc, encoding, graph, table, cycles))?;
     }
     Ok(report)

@@ -2,6 +2,7 @@
 use crate::{clauses, equalities, formulas, rounds, schedules, scripts, searches};
 use case_files::Trouble;
 use cycle_encoding::Encoding;
+use schedule_meaning::Allocation;
 use std::alloc::Global;
 
 /// What the cases of a file ask.
@@ -15,10 +16,13 @@ pub(crate) enum Subject {
     Launched,
     Generated,
     Fits,
+    LiveFits,
     Listings,
+    LiveListings,
     Formulas,
     NarrowFormulas,
     PinnedFormulas,
+    LiveFormulas,
     Counters,
     LineTexts,
     Refutations,
@@ -26,7 +30,7 @@ pub(crate) enum Subject {
 }
 
 /// The name of each subject.
-const NAMES: [(&str, Subject); 16] = [
+const NAMES: [(&str, Subject); 19] = [
     ("equations", Subject::Equations),
     ("computed", Subject::Computed),
     ("constants", Subject::Constants),
@@ -35,10 +39,13 @@ const NAMES: [(&str, Subject); 16] = [
     ("launched", Subject::Launched),
     ("generated", Subject::Generated),
     ("fits", Subject::Fits),
+    ("live-fits", Subject::LiveFits),
     ("listings", Subject::Listings),
+    ("live-listings", Subject::LiveListings),
     ("formulas", Subject::Formulas),
     ("narrow-formulas", Subject::NarrowFormulas),
     ("pinned-formulas", Subject::PinnedFormulas),
+    ("live-formulas", Subject::LiveFormulas),
     ("counters", Subject::Counters),
     ("line-texts", Subject::LineTexts),
     ("refutations", Subject::Refutations),
@@ -64,11 +71,14 @@ impl case_files::Subject for Subject {
             Subject::Rounds => rounds::rounds(alloc, input),
             Subject::Launched => rounds::launched(alloc, input),
             Subject::Generated => rounds::generated(alloc, input),
-            Subject::Fits => schedules::fits(alloc, input),
-            Subject::Listings => schedules::listings(alloc, input),
+            Subject::Fits => schedules::fits(alloc, Allocation::Block, input),
+            Subject::LiveFits => schedules::fits(alloc, Allocation::Live, input),
+            Subject::Listings => schedules::listings(alloc, Allocation::Block, input),
+            Subject::LiveListings => schedules::listings(alloc, Allocation::Live, input),
             Subject::Formulas => formulas::formulas(alloc, input),
             Subject::NarrowFormulas => formulas::formulas_as(alloc, Encoding::Narrow, input),
             Subject::PinnedFormulas => formulas::formulas_as(alloc, Encoding::Pinned, input),
+            Subject::LiveFormulas => formulas::formulas_as(alloc, Encoding::Live, input),
             Subject::Counters => clauses::counters(alloc, input),
             Subject::LineTexts => clauses::line_texts(alloc, input),
             Subject::Refutations => clauses::refutations(alloc, input),

@@ -17,6 +17,7 @@ use Rattle.machine_table.specs.declared.tables.InstrKind.{InstrKind}
 use Rattle.machine_table.specs.declared.tables.InstrKind.TheVariants.{Beq}
 use Rattle.machine_table.specs.declared.tables.Use.{Use}
 use Rattle.machine_table.specs.declared.tables.Table.{Table}
+use Rattle.schedule_meaning.specs.declared.schedules.Allocation.{Allocation}
 use Rattle.schedule_meaning.specs.declared.schedules.Launch.{Launch}
 use Rattle.schedule_meaning.specs.declared.schedules.To.TheVariants.{Pool}
 use Rattle.schedule_meaning.proofs.Ordered.{found_in, latency_positive, takes_time}
@@ -56,8 +57,9 @@ map_get f (y ∷ xs) (suc i) d x h = map_get f xs i d x (omega arith)
 eqb_same : (x y : ℕ) → (x == y) ≡ true → x ≡ y
 eqb_same x y h = (Decides-eqb x y).0 h
 
-pub few_launches : (g : LaunchGraph) (table : Table) (k : ℕ) (ls : List Launch) → IsTable table → Fits g table k ls → length ls ≤ 8 * k
-few_launches g table k ls t fits =
+pub few_launches : (g : LaunchGraph) (table : Table) (allocation : Allocation) (k : ℕ) (ls : List Launch)
+    → IsTable table → Fits g table allocation k ls → length ls ≤ 8 * k
+few_launches g table allocation k ls t fits =
     let places : (i : ℕ) (d : Launch) → i < length ls → ((get_or ls i d).cycle < k) × ((get_or ls i d).slot < 8) =
     λ i d lt. place_of_launch g table k t (get_or ls i d) (fits.rows i d lt) (fits.in_time i d lt) in
     let none : Launch = record { cycle = 0; slot = 0; row = 0; to = Pool } in
@@ -78,12 +80,14 @@ few_launches g table k ls t fits =
     small : (c s k : ℕ) → c < k → s < 8 → 8 * c + s < 8 * k
     small c s k h t = omega arith
 
-pub places_of_launches : (g : LaunchGraph) (table : Table) (k : ℕ) (ls : List Launch) → IsTable table → Fits g table k ls
+pub places_of_launches : (g : LaunchGraph) (table : Table) (allocation : Allocation) (k : ℕ) (ls : List Launch)
+    → IsTable table → Fits g table allocation k ls
     → All (λ l. (l.cycle < k) × (l.slot < 8)) ls
-places_of_launches g table k ls t fits i d lt =
+places_of_launches g table allocation k ls t fits i d lt =
     place_of_launch g table k t (get_or ls i d) (fits.rows i d lt) (fits.in_time i d lt)
 
-pub later_of_launches : (g : LaunchGraph) (table : Table) (k cluster : ℕ) (ls : List Launch) → IsTable table
-    → Fits g table k ls → All (λ l. l.cycle < ready_in g table cluster l) ls
-later_of_launches g table k cluster ls t fits i d lt =
+pub later_of_launches : (g : LaunchGraph) (table : Table) (allocation : Allocation) (k cluster : ℕ) (ls : List Launch)
+    → IsTable table
+    → Fits g table allocation k ls → All (λ l. l.cycle < ready_in g table cluster l) ls
+later_of_launches g table allocation k cluster ls t fits i d lt =
     takes_time g table ls t fits.rows i (get_or ls i d) cluster (slice_get-get_or ls i d lt)

@@ -69,6 +69,28 @@ abbrev pub dec_small : (o : Option ℕ) (high : ℕ) → Dec ((n : ℕ) × (o �
 dec_small None high = inr (λ h. none_value h.0 h.1)
 dec_small (Some m) high = dec_map (λ l. (m, refl, l)) (λ u h. u (subst (λ n. n ≤ high) (sym (some_value h.1)) h.2)) (dec_le m high)
 
+-- ---- numbers below a bound
+
+module _ (P : ℕ → Type 0) where
+  pub below_none : (t : ℕ) → t < 0 → P t
+  below_none t lt = absurd (omega arith)
+
+  below_or_last : (t k : ℕ) → t < suc k → (t < k) ⊎ (t ≡ k)
+  below_or_last t k h = grind arith
+
+  pub below_more : (k : ℕ) → ((t : ℕ) → t < k → P t) → P k → (t : ℕ) → t < suc k → P t
+  below_more k below here t lt =
+      elim (below_or_last t k lt) [ inl less ↦ below t less | inr same ↦ subst P (sym same) here ]
+
+  abbrev below_step : (k : ℕ) → Dec ((t : ℕ) → t < k → P t) → Dec (P k) → Dec ((t : ℕ) → t < suc k → P t)
+  below_step k (inl below) (inl here) = inl (below_more k below here)
+  below_step k (inr n) d = inr (λ h. n (λ t lt. h t (omega arith)))
+  below_step k (inl below) (inr n) = inr (λ h. n (h k (omega arith)))
+
+  abbrev pub dec_below : ((t : ℕ) → Dec (P t)) → (k : ℕ) → Dec ((t : ℕ) → t < k → P t)
+  dec_below d zero = inl below_none
+  dec_below d (suc k) = below_step k (dec_below d k) (d k)
+
 -- ---- the first place at which a fact fails
 
 abbrev pub HoldBelow : {X : Type 0} → (ℕ → X → Type 0) → List X → ℕ → Type 0

@@ -7,6 +7,8 @@ pub mod Finding
 pub mod Going
 pub mod Inputs
 pub mod LatestStores
+pub mod LiveRanges
+pub mod Longer
 pub mod Loops
 pub mod Memory
 pub mod OperandPlaces

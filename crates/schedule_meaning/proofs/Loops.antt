@@ -1,10 +1,15 @@
 -- A loop that tests each element, and stops at the first that fails, or at the first that passes.
-use Rattle.std.proofs.Common.{◌≡◌, ◌↔◌, ℕ, ◌+◌, ◌<◌, ◌≤◌, List, length, take, get_or, refl, sym, ◌∙◌, ap, subst, inl, inr, ◌⊎◌, arith, true, false, Option, Some, None}
-use Rattle.std.specs.Prelude.{All, Any, IsTrue, IfSome, slice_get}
+use Rattle.std.proofs.Common.{◌≡◌, ◌↔◌, ℕ, ◌+◌, ◌<◌, ◌≤◌, List, [], ◌∷◌, ◌++◌, length, take, get_or, refl, sym, ◌∙◌, ap, subst, inl, inr, ◌⊎◌, arith, Bool, true, false, Option, Some, None}
+use Rattle.std.specs.Prelude.{◌||◌, All, Any, IsTrue, IfSome, slice_get}
+use Rattle.std.specs.Option.{option_map_or}
+use Rattle.std.specs.List.{list_any}
 use Rattle.std.proofs.lemmas.Bool.{false≢true}
 use Rattle.std.proofs.lemmas.List.{take_more, take_all}
 use Rattle.std.proofs.lemmas.List.Elements.{All-push}
+use Rattle.std.proofs.lemmas.List.Folds.{list_any-append}
+use Rattle.std.proofs.lemmas.Option.{get_or_from_slice_get, slice_get_cases}
 use Rattle.schedule_meaning.proofs.Decide.{HoldBelow}
+use Rattle.schedule_meaning.proofs.Pins.{any_at}
 use Rattle.schedule_meaning.proofs.Rules.{in_list, at_each, all_at}
 
 module _ {X : Type 0} (P : X → Type 0) where
@@ -26,6 +31,36 @@ module _ {X : Type 0} (P : X → Type 0) where
 
   pub one_passes : (xs : List X) (i : ℕ) (x : X) → i < length xs → x ≡ get_or xs i x → P x → IsTrue true ↔ Any P xs
   one_passes xs i x lt is p = ((λ _. (i, x, lt, sym is, p)), λ _. refl)
+
+-- ---- a test of each place
+
+module _ {X : Type 0} (p : X → Bool) (xs : List X) where
+  pub any_by_place : (i : ℕ) → option_map_or p (slice_get xs i) false ≡ true → list_any p xs ≡ true
+  any_by_place i h =
+      elim ((slice_get_cases xs i).1) [
+        | inl there ↦ any_at p xs i there.0 there.2 (sym (ap (λ o. option_map_or p o false) there.2) ∙ h)
+        | inr past ↦ absurd (false≢true (sym (ap (λ o. option_map_or p o false) past.1) ∙ h))
+      ]
+
+  push_none : (ys : List X) (x : X) → list_any p ys ≡ false → p x ≡ false → list_any p (ys ++ x ∷ []) ≡ false
+  push_none ys x h f =
+      list_any-append p ys (x ∷ []) ∙ ap (λ b. b || (p x || false)) h ∙ ap (λ b. b || false) f
+
+  pub none_by_place : (i : ℕ) → list_any p (take i xs) ≡ false → option_map_or p (slice_get xs i) false ≡ false
+      → list_any p (take (i + 1) xs) ≡ false
+  none_by_place i h f =
+      elim ((slice_get_cases xs i).1) [
+        | inl there ↦ (
+            let at : get_or xs i there.0 ≡ there.0 = get_or_from_slice_get xs i there.0 there.0 there.2 in
+            ap (list_any p) (take_more xs i there.0 there.1) ∙ push_none (take i xs) (get_or xs i there.0) h
+            (ap p at ∙ sym (ap (λ o. option_map_or p o false) there.2) ∙ f))
+        | inr past ↦ (
+            let le : length xs ≤ i = past.0 in
+            ap (list_any p) (take_all (i + 1) xs (omega arith) ∙ sym (take_all i xs le)) ∙ h)
+      ]
+
+  pub none_by_places : (i : ℕ) → length xs ≤ i → list_any p (take i xs) ≡ false → list_any p xs ≡ false
+  none_by_places i le h = ap (list_any p) (sym (take_all i xs le)) ∙ h
 
 -- ---- a fact of each place and what stands there
 

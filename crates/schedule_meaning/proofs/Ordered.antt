@@ -7,11 +7,11 @@ use Rattle.std.proofs.lemmas.Bool.Decides.{eqb_tells}
 use Rattle.std.proofs.lemmas.List.Elements.{All-weaker, All-head, All-tail}
 use Rattle.std.proofs.lemmas.Option.{same_Some, none-some}
 use Rattle.machine_table.specs.Tables.{use_of, latency_of, MayUse, IsTable, IsUse, ready, cluster_of}
-use Rattle.schedule_meaning.specs.Launches.{launches, takes_pool, goes_to, writes_pin, spoils, instr_at, ready_in, is_store, is_branch, IsFree, IsReadable, Gives, memory_class_at, class_at}
+use Rattle.schedule_meaning.specs.Launches.{launches, goes_to, writes_pin, spoils, instr_at, ready_in, is_store, is_branch, IsFree, IsReadable, Gives, memory_class_at, class_at}
 use Rattle.schedule_meaning.specs.declared.schedules.Operand.{Operand}
 use Rattle.machine_table.specs.InstrOrder.{kind_number}
 use Rattle.graph_meaning.specs.Graphs.{memory_target}
-use Rattle.schedule_meaning.specs.Fits.{CanLaunch, CanGo, CanRead, Collide, EndsBy, IsWhereWanted, IsReached, IsLatestStore, IsLeft, UsesMemory, Waits, Fits}
+use Rattle.schedule_meaning.specs.Fits.{CanLaunch, CanGo, CanGoTo, CanGoToPin, MayLoadOver, CanRead, Collide, EndsBy, IsWhereWanted, IsReached, IsLatestStore, IsLeft, UsesMemory, Waits, Fits}
 use Rattle.graph_meaning.specs.declared.graphs.Guard.{Guard}
 use Rattle.graph_meaning.specs.declared.graphs.SetClass.{SetClass}
 use Rattle.machine_table.specs.declared.tables.InstrKind.{InstrKind}
@@ -19,7 +19,12 @@ use Rattle.machine_table.specs.declared.tables.InstrKind.TheVariants.{Beq}
 use Rattle.machine_table.specs.declared.tables.Use.{Use}
 use Rattle.machine_table.specs.declared.tables.Table.{Table}
 use Rattle.graph_meaning.specs.declared.graphs.LaunchGraph.{LaunchGraph}
+use Rattle.schedule_meaning.specs.declared.schedules.Allocation.{Allocation}
+use Rattle.schedule_meaning.specs.declared.schedules.Allocation.TheVariants.{Block, Live}
+use Rattle.schedule_meaning.specs.declared.schedules.To.{To}
+use Rattle.schedule_meaning.specs.declared.schedules.To.TheVariants.{Pool, Set}
 use Rattle.schedule_meaning.specs.declared.schedules.Launch.{Launch}
+use Rattle.schedule_meaning.proofs.LiveRanges.{room_permuted}
 use Rattle.schedule_meaning.proofs.Rules.{at_each}
 
 -- ---- latency is at least 1
@@ -117,7 +122,8 @@ any_permuted P xs ys p h =
     let c = Contains-permutation xs ys h.1 p (h.0, h.2, h.3) in
     (c.0, h.1, c.1, c.2, h.4)
 
-module _ (g : LaunchGraph) (table : Table) (k : ℕ) (ls ys : List Launch) (p : IsPermutation ls ys) where
+module _ (g : LaunchGraph) (table : Table) (allocation : Allocation) (k : ℕ) (ls ys : List Launch)
+    (p : IsPermutation ls ys) where
   back : IsPermutation ys ls
   back = IsPermutation-sym ls ys p
 
@@ -159,11 +165,33 @@ module _ (g : LaunchGraph) (table : Table) (k : ℕ) (ls ys : List Launch) (p : 
   branch_permuted None h = h
   branch_permuted (Some guard) h = sum_by-IsPermutation (λ x. cond (launches g is_branch x) 1 0) ls ys p ∙ h
 
+  over_permuted : (way : Allocation) (l : Launch) → MayLoadOver g way ls l → MayLoadOver g way ys l
+  over_permuted Block l h = h
+  over_permuted Live l h = All-permutation (λ m. IsTrue (launches g is_store m) → ¬ (m.cycle ≡ l.cycle)) ls ys p h
+
+  pin_permuted : (l : Launch) (s : SetClass) (o : Option ℕ) → IsSomeAnd o (CanGoToPin g allocation ls l s)
+      → IsSomeAnd o (CanGoToPin g allocation ys l s)
+  pin_permuted l s None h = h
+  pin_permuted l s (Some r) h =
+      record { gives = h.gives; loads_over = λ load input. over_permuted allocation l (h.loads_over load input) }
+
+  set_permuted : (l : Launch) (o : Option SetClass)
+      → IsSomeAnd o (λ s. IsSomeAnd s.pin (CanGoToPin g allocation ls l s))
+      → IsSomeAnd o (λ s. IsSomeAnd s.pin (CanGoToPin g allocation ys l s))
+  set_permuted l None h = h
+  set_permuted l (Some s) h = pin_permuted l s s.pin h
+
+  go_permuted : (l : Launch) (to : To) → CanGoTo g allocation ls l to → CanGoTo g allocation ys l to
+  go_permuted l Pool h = h
+  go_permuted l (Set j) h = set_permuted l (slice_get g.sets j) h
+
   -- a schedule that fits, fits in every order
-  pub fits_permuted : Fits g table k ls → Fits g table k ys
+  pub fits_permuted : Fits g table allocation k ls → Fits g table allocation k ys
   fits_permuted f = record {
     rows = All-permutation (CanLaunch g table) ls ys p f.rows;
-    destinations = All-permutation (CanGo g) ls ys p f.destinations;
+    destinations =
+        All-permutation (CanGo g allocation ys) ls ys p
+        (All-weaker (CanGo g allocation ls) (CanGo g allocation ys) (λ l h. go_permuted l l.to h) ls f.destinations);
     apart = all_pairs_permuted (λ l m. ¬ Collide l m) (λ l m n c. n (sym c.0, sym c.1)) ls ys p f.apart;
     operands = All-permutation (CanRead g table ys) ls ys p (All-weaker (CanRead g table ls) (CanRead g table ys) (λ l h i d lt. read_step l _ (h i d lt)) ls f.operands);
     in_time = All-permutation (EndsBy g table k) ls ys p f.in_time;
@@ -175,5 +203,5 @@ module _ (g : LaunchGraph) (table : Table) (k : ℕ) (ls ys : List Launch) (p : 
     };
     one_branch = branch_permuted g.guard f.one_branch;
     after_branch = All-permutation (Waits g ys) ls ys p (All-weaker (Waits g ls) (Waits g ys) (λ l h u. All-permutation (λ b. IsTrue (launches g is_branch b) → b.cycle ≤ l.cycle) ls ys p (h u)) ls f.after_branch);
-    pool = subst (λ n. n ≤ length g.pool) (sym (counted_permuted (takes_pool g))) f.pool;
+    pool = room_permuted g ls ys p allocation k f.pool;
   }

@@ -10,9 +10,11 @@ use Rattle.std.proofs.lemmas.List.Folds.{list_any_none, list_any-from_Any}
 use Rattle.std.proofs.lemmas.List.Elements.{Contains-get_or}
 use Rattle.graph_meaning.specs.Graphs.{is_input_register, HaveOwnPins, IsPin}
 use Rattle.schedule_meaning.specs.Launches.{launches, gives_word, is_load, set_at, pin_of, writes_pin, overwrites, goes_to, is_set}
-use Rattle.schedule_meaning.specs.Fits.{CanGo, CanGoTo, CanGoToPin}
+use Rattle.schedule_meaning.specs.Fits.{CanGo, CanGoTo, CanGoToPin, MayLoadOver}
 use Rattle.graph_meaning.specs.declared.graphs.SetClass.{SetClass}
 use Rattle.graph_meaning.specs.declared.graphs.LaunchGraph.{LaunchGraph}
+use Rattle.schedule_meaning.specs.declared.schedules.Allocation.{Allocation}
+use Rattle.schedule_meaning.specs.declared.schedules.Allocation.TheVariants.{Block}
 use Rattle.schedule_meaning.specs.declared.schedules.To.{To}
 use Rattle.schedule_meaning.specs.declared.schedules.To.TheVariants.{Pool, Set}
 use Rattle.schedule_meaning.specs.declared.schedules.Launch.{Launch}
@@ -89,39 +91,52 @@ module _ (g : LaunchGraph) where
 
   -- ---- a launch that may go where it goes
 
-  -- to the pool, or to a pin
-  abbrev pub GoesTo : Launch → To → Type 0
-  GoesTo l to = ((to ≡ Pool) × (pin_of g to ≡ None)) ⊎ ((r : ℕ) × (s : SetClass) × (set_at g to ≡ Some s) × (pin_of g to ≡ Some r) × CanGoToPin g l s r)
+  module _ (allocation : Allocation) (ls : List Launch) where
+    -- to the pool, or to a pin
+    abbrev pub GoesTo : Launch → To → Type 0
+    GoesTo l to =
+        ((to ≡ Pool) × (pin_of g to ≡ None)) ⊎ ((r : ℕ) × (s : SetClass) × (set_at g to ≡ Some s) × (pin_of g to ≡ Some
+        r) × CanGoToPin g allocation ls l s r)
 
-  by_pin : (l : Launch) (j : ℕ) (s : SetClass) → slice_get g.sets j ≡ Some s → (o : Option ℕ) → s.pin ≡ o → IsSomeAnd o (CanGoToPin g l s) → GoesTo l (Set j)
-  by_pin l j s e None t h = absurd h
-  by_pin l j s e (Some r) t h = inr (r, s, e, ap (option_and_then (λ s. s.pin)) e ∙ t, h)
+    by_pin : (l : Launch) (j : ℕ) (s : SetClass) → slice_get g.sets j ≡ Some s → (o : Option ℕ) → s.pin ≡ o
+        → IsSomeAnd o (CanGoToPin g allocation ls l s) → GoesTo l (Set j)
+    by_pin l j s e None t h = absurd h
+    by_pin l j s e (Some r) t h = inr (r, s, e, ap (option_and_then (λ s. s.pin)) e ∙ t, h)
 
-  by_set : (l : Launch) (j : ℕ) (o : Option SetClass) → slice_get g.sets j ≡ o → IsSomeAnd o (λ s. IsSomeAnd s.pin (CanGoToPin g l s)) → GoesTo l (Set j)
-  by_set l j None e h = absurd h
-  by_set l j (Some s) e h = by_pin l j s e s.pin refl h
+    by_set : (l : Launch) (j : ℕ) (o : Option SetClass) → slice_get g.sets j ≡ o
+        → IsSomeAnd o (λ s. IsSomeAnd s.pin (CanGoToPin g allocation ls l s)) → GoesTo l (Set j)
+    by_set l j None e h = absurd h
+    by_set l j (Some s) e h = by_pin l j s e s.pin refl h
 
-  go_by : (l : Launch) (to : To) → CanGoTo g l to → GoesTo l to
-  go_by l Pool h = inl (refl, refl)
-  go_by l (Set j) h = by_set l j (slice_get g.sets j) refl h
+    go_by : (l : Launch) (to : To) → CanGoTo g allocation ls l to → GoesTo l to
+    go_by l Pool h = inl (refl, refl)
+    go_by l (Set j) h = by_set l j (slice_get g.sets j) refl h
 
-  pub go : (l : Launch) → CanGo g l → GoesTo l l.to
-  go l h = go_by l l.to h
+    pub go : (l : Launch) → CanGo g allocation ls l → GoesTo l l.to
+    go l h = go_by l l.to h
 
-  -- what gives no word overwrites nothing, and neither does a load
-  pub idle_not_over : (l : Launch) → CanGo g l → launches g gives_word l ≡ false → overwrites g l ≡ false
-  idle_not_over l h n =
-      elim (go l h) [
-        | inl p ↦ ap (λ o. option_map_or (is_input_register g) o false) p.1
-        | inr (r, s, at, e, c) ↦ absurd (false≢true (sym n ∙ c.gives.0))
-      ]
+    -- what gives no word overwrites nothing
+    pub idle_not_over : (l : Launch) → CanGo g allocation ls l → launches g gives_word l ≡ false
+        → overwrites g l ≡ false
+    idle_not_over l h n =
+        elim (go l h) [
+          | inl p ↦ ap (λ o. option_map_or (is_input_register g) o false) p.1
+          | inr (r, s, at, e, c) ↦ absurd (false≢true (sym n ∙ c.gives.0))
+        ]
 
-  pub load_not_over : (l : Launch) → CanGo g l → IsTrue (launches g is_load l) → overwrites g l ≡ false
-  load_not_over l h t =
-      elim (go l h) [
-        | inl p ↦ ap (λ o. option_map_or (is_input_register g) o false) p.1
-        | inr (r, s, at, e, c) ↦ ap (λ o. option_map_or (is_input_register g) o false) e ∙ false_from (is_input_register g r) (c.no_load t)
-      ]
+    -- a load that overwrites an input may do so
+    pub load_over : (l : Launch) → CanGo g allocation ls l → IsTrue (launches g is_load l) → overwrites g l ≡ true
+        → MayLoadOver g allocation ls l
+    load_over l h t over =
+        elim (go l h) [
+          | inl p ↦ absurd (false≢true (sym (ap (λ o. option_map_or (is_input_register g) o false) p.1) ∙ over))
+          | inr (r, s, at, e, c) ↦ c.loads_over t (sym (ap (λ o. option_map_or (is_input_register g) o false) e) ∙ over)
+        ]
+
+  -- in blocks no load overwrites an input
+  pub load_not_over : (ls : List Launch) (l : Launch) → CanGo g Block ls l → IsTrue (launches g is_load l)
+      → overwrites g l ≡ false
+  load_not_over ls l h t = false_from (overwrites g l) (load_over Block ls l h t)
 
 one_of_three : (a b : ℕ) → (a < b) ⊎ (b < a) ⊎ (a ≡ b)
 one_of_three a b = grind arith

@@ -9,6 +9,7 @@ use Rattle.schedule_meaning.specs.declared.fitting.Rule.{Rule}
 use Rattle.schedule_meaning.specs.declared.fitting.Rule.TheVariants.{Rows, Apart, Operands, InTime, Targets, Memory, OneBranch, AfterBranch, Pool}
 use Rattle.machine_table.specs.declared.tables.Table.{Table}
 use Rattle.graph_meaning.specs.declared.graphs.LaunchGraph.{LaunchGraph}
+use Rattle.schedule_meaning.specs.declared.schedules.Allocation.{Allocation}
 use Rattle.schedule_meaning.specs.declared.schedules.Launch.{Launch}
 use Rattle.schedule_meaning.proofs.Memory as mem
 use Rattle.machine_table.proofs.Decide.{Dec}
@@ -33,8 +34,8 @@ at_pair R xs h i j a b lt ea eb =
     let s : R a (get_or xs j a) = subst (λ x. R x (get_or xs j a)) (get_or_from_slice_get xs i a a ea) r in
     subst (λ x. R a x) (get_or_from_slice_get xs j b a eb) s
 
-module _ (g : LaunchGraph) (table : Table) (k : ℕ) (ls : List Launch) where
-  kept_memory : KeepsMemory g ls → IsKept g table k ls Memory
+module _ (g : LaunchGraph) (table : Table) (allocation : Allocation) (k : ℕ) (ls : List Launch) where
+  kept_memory : KeepsMemory g ls → IsKept g table allocation k ls Memory
   kept_memory f =
       let t = mem.after_all ls in
       record {
@@ -45,8 +46,13 @@ module _ (g : LaunchGraph) (table : Table) (k : ℕ) (ls : List Launch) where
         whole = mem.after_is_before g ls t.0 t.1 ∙ mem.left_once g ls f.single t.0 _ _ (mem.memory_before_is g t.0 ls) (f.last t.0 t.1);
       }
 
-  pub kept_where_fits : Fits g table k ls → (r : Rule) → IsKept g table k ls r
-  kept_where_fits f Rows = record { each = λ j m l e. (at_each (CanLaunch g table) ls f.rows j m e, at_each (CanGo g) ls f.destinations j m e); whole = tt }
+  pub kept_where_fits : Fits g table allocation k ls → (r : Rule) → IsKept g table allocation k ls r
+  kept_where_fits f Rows =
+      record {
+        each = λ j m l e.
+            (at_each (CanLaunch g table) ls f.rows j m e, at_each (CanGo g allocation ls) ls f.destinations j m e);
+        whole = tt;
+      }
   kept_where_fits f Apart = record { each = λ j m l e i n lt ei c. at_pair (λ l m. ¬ Collide l m) ls f.apart i j n m lt ei e (sym c.0, sym c.1); whole = tt }
   kept_where_fits f Operands = record { each = λ j m l e. at_each (CanRead g table ls) ls f.operands j m e; whole = tt }
   kept_where_fits f InTime = record { each = λ j m l e. at_each (EndsBy g table k) ls f.in_time j m e; whole = tt }
@@ -56,17 +62,17 @@ module _ (g : LaunchGraph) (table : Table) (k : ℕ) (ls : List Launch) where
   kept_where_fits f AfterBranch = record { each = λ j m l e. at_each (Waits g ls) ls f.after_branch j m e; whole = tt }
   kept_where_fits f Pool = record { each = λ j m l e. tt; whole = f.pool }
 
-  fits_memory : IsKept g table k ls Memory → KeepsMemory g ls
+  fits_memory : IsKept g table allocation k ls Memory → KeepsMemory g ls
   fits_memory h = record {
     each = all_at (λ l. UsesMemory g l → IsLeft g ls l.cycle (memory_class_at g l.row)) ls (λ j m l e u. subst (λ c. IsLeft g ls m.cycle c) (sym ((h.each j m l e).reads u)) (mem.memory_before_is g m.cycle ls));
     single = λ i j d lt len si sj same. (h.each j (get_or ls j d) len (slice_get-get_or ls j d len)).single sj i (get_or ls i d) lt (slice_get-get_or ls i d (omega arith)) (si, same);
     last = λ t after. subst (λ c. IsLeft g ls t c) (sym (mem.after_is_before g ls t after) ∙ h.whole) (mem.memory_before_is g t ls);
   }
 
-  pub fits_where_kept : ((r : Rule) → IsKept g table k ls r) → Fits g table k ls
+  pub fits_where_kept : ((r : Rule) → IsKept g table allocation k ls r) → Fits g table allocation k ls
   fits_where_kept h = record {
     rows = all_at (CanLaunch g table) ls (λ j m l e. ((h Rows).each j m l e).0);
-    destinations = all_at (CanGo g) ls (λ j m l e. ((h Rows).each j m l e).1);
+    destinations = all_at (CanGo g allocation ls) ls (λ j m l e. ((h Rows).each j m l e).1);
     apart = λ i j d lt len c. (h Apart).each j (get_or ls j d) len (slice_get-get_or ls j d len) i (get_or ls i d) lt (slice_get-get_or ls i d (omega arith)) (sym c.0, sym c.1);
     operands = all_at (CanRead g table ls) ls (h Operands).each;
     in_time = all_at (EndsBy g table k) ls (h InTime).each;
@@ -77,28 +83,13 @@ module _ (g : LaunchGraph) (table : Table) (k : ℕ) (ls : List Launch) where
     pool = (h Pool).whole;
   }
 
-  not_both : (r : Rule) (i : ℕ) → IsKept g table k ls r → Breaks g table k ls r i → ⊥
+  not_both : (r : Rule) (i : ℕ) → IsKept g table allocation k ls r → Breaks g table allocation k ls r i → ⊥
   not_both r _ h (at i l e below n) = n (h.each i l (in_list ls i l e) e)
   not_both r _ h (whole below n) = n h.whole
 
   -- never both
-  pub broken_does_not_fit : (i r : ℕ) → IsFirstBroken g table k ls i r → ¬ Fits g table k ls
+  pub broken_does_not_fit : (i r : ℕ) → IsFirstBroken g table allocation k ls i r → ¬ Fits g table allocation k ls
   broken_does_not_fit i r b f = not_both b.which i (kept_where_fits f b.which) b.broken
-
--- what fits in k cycles fits in more
-pub fits_longer : (g : LaunchGraph) (table : Table) (k m : ℕ) (ls : List Launch) → k ≤ m → Fits g table k ls → Fits g table m ls
-fits_longer g table k m ls le f = record {
-  rows = f.rows;
-  destinations = f.destinations;
-  apart = f.apart;
-  operands = f.operands;
-  in_time = λ i d lt. (let ends = f.in_time i d lt in omega (arith, ends, le));
-  targets = f.targets;
-  memory = f.memory;
-  one_branch = f.one_branch;
-  after_branch = f.after_branch;
-  pool = f.pool;
-}
 
 -- ---- the two cases, found by computing
 
@@ -172,57 +163,57 @@ less_or_same a b h = grind arith
 one_of_three : (a b : ℕ) → (a < b) ⊎ (b < a) ⊎ (a ≡ b)
 one_of_three a b = grind arith
 
-module _ (g : LaunchGraph) (table : Table) (k : ℕ) (ls : List Launch) where
+module _ (g : LaunchGraph) (table : Table) (allocation : Allocation) (k : ℕ) (ls : List Launch) where
   -- ---- at most one launch and rule
 
-  same_place : (r : Rule) (i j : ℕ) → Breaks g table k ls r i → Breaks g table k ls r j → i ≡ j
+  same_place : (r : Rule) (i j : ℕ) → Breaks g table allocation k ls r i → Breaks g table allocation k ls r j → i ≡ j
   same_place r _ _ (at i l e b n) (at j m f c o) =
       elim (one_of_three i j) [ inl h ↦ absurd (n (c i l h e)) | inr h ↦ elim h [ inl h ↦ absurd (o (b j m h f)) | inr h ↦ h ] ]
   same_place r _ _ (at i l e b n) (whole c o) = absurd (n (c i l (in_list ls i l e) e))
   same_place r _ _ (whole b n) (at j m f c o) = absurd (o (b j m (in_list ls j m f) f))
   same_place r _ _ (whole b n) (whole c o) = refl
 
-  earlier_kept : (i r j s : ℕ) → IsFirstBroken g table k ls i r → IsFirstBroken g table k ls j s → r < s → ⊥
+  earlier_kept : (i r j s : ℕ) → IsFirstBroken g table allocation k ls i r → IsFirstBroken g table allocation k ls j s → r < s → ⊥
   earlier_kept i r j s b c lt =
-      not_both g table k ls b.which i (c.earlier b.which (subst (λ n. n < s) (sym b.is) lt)) b.broken
+      not_both g table allocation k ls b.which i (c.earlier b.which (subst (λ n. n < s) (sym b.is) lt)) b.broken
 
-  same_number : (i r j s : ℕ) → IsFirstBroken g table k ls i r → IsFirstBroken g table k ls j s → r ≡ s
+  same_number : (i r j s : ℕ) → IsFirstBroken g table allocation k ls i r → IsFirstBroken g table allocation k ls j s → r ≡ s
   same_number i r j s b c =
       elim (one_of_three r s) [ inl h ↦ absurd (earlier_kept i r j s b c h) | inr h ↦ elim h [ inl h ↦ absurd (earlier_kept j s i r c b h) | inr h ↦ h ] ]
 
   -- two answers are the same answer
-  pub first_broken_once : (i r j s : ℕ) → IsFirstBroken g table k ls i r → IsFirstBroken g table k ls j s → (i ≡ j) × (r ≡ s)
+  pub first_broken_once : (i r j s : ℕ) → IsFirstBroken g table allocation k ls i r → IsFirstBroken g table allocation k ls j s → (i ≡ j) × (r ≡ s)
   first_broken_once i r j s b c =
       let e : r ≡ s = same_number i r j s b c in
       let w : c.which ≡ b.which = same_rule c.which b.which (c.is ∙ sym e ∙ sym b.is) in
-      (same_place b.which i j b.broken (subst (λ x. Breaks g table k ls x j) w c.broken), e)
+      (same_place b.which i j b.broken (subst (λ x. Breaks g table allocation k ls x j) w c.broken), e)
 
   -- ---- one of the two
 
   abbrev pub Found : Type 0
-  Found = (i : ℕ) × (r : ℕ) × IsFirstBroken g table k ls i r
+  Found = (i : ℕ) × (r : ℕ) × IsFirstBroken g table allocation k ls i r
 
   abbrev pub Earlier : ℕ → Type 0
-  Earlier n = (r : Rule) → number r < n → IsKept g table k ls r
+  Earlier n = (r : Rule) → number r < n → IsKept g table allocation k ls r
 
-  pub one_more : (which : Rule) → Earlier (number which) → IsKept g table k ls which → Earlier (number which + 1)
+  pub one_more : (which : Rule) → Earlier (number which) → IsKept g table allocation k ls which → Earlier (number which + 1)
   one_more which earlier kept r lt =
-      elim (less_or_same (number r) (number which) lt) [ inl l ↦ earlier r l | inr e ↦ subst (λ x. IsKept g table k ls x) (sym (same_rule r which e)) kept ]
+      elim (less_or_same (number r) (number which) lt) [ inl l ↦ earlier r l | inr e ↦ subst (λ x. IsKept g table allocation k ls x) (sym (same_rule r which e)) kept ]
 
-  abbrev pub rule_step : (which : Rule) → HoldBelow (Asks g table k ls which) ls (length ls) ⊎ FailsFirst (Asks g table k ls which) ls → Dec (AsksOfAll g table k ls which) → IsKept g table k ls which ⊎ ((i : ℕ) × Breaks g table k ls which i)
+  abbrev pub rule_step : (which : Rule) → HoldBelow (Asks g table allocation k ls which) ls (length ls) ⊎ FailsFirst (Asks g table allocation k ls which) ls → Dec (AsksOfAll g table allocation k ls which) → IsKept g table allocation k ls which ⊎ ((i : ℕ) × Breaks g table allocation k ls which i)
   rule_step which (inr f) d = inr (f.0, at f.0 f.1 f.2 f.3 f.4)
   rule_step which (inl h) (inl w) = inl (record { each = h; whole = w })
   rule_step which (inl h) (inr n) = inr (length ls, whole h n)
 
-  abbrev pub next : (which : Rule) → Earlier (number which) → IsKept g table k ls which ⊎ ((i : ℕ) × Breaks g table k ls which i) → Earlier (number which + 1) ⊎ Found
+  abbrev pub next : (which : Rule) → Earlier (number which) → IsKept g table allocation k ls which ⊎ ((i : ℕ) × Breaks g table allocation k ls which i) → Earlier (number which + 1) ⊎ Found
   next which earlier (inl kept) = inl (one_more which earlier kept)
   next which earlier (inr b) = inr (b.0, number which, record { which = which; is = refl; earlier = earlier; broken = b.1 })
 
   -- the same of a rule by its number
-  pub kept_after : (which : Rule) (n : ℕ) → number which ≡ n → Earlier n → IsKept g table k ls which → Earlier (n + 1)
+  pub kept_after : (which : Rule) (n : ℕ) → number which ≡ n → Earlier n → IsKept g table allocation k ls which → Earlier (n + 1)
   kept_after which n e earlier kept = subst (λ m. Earlier (m + 1)) e (one_more which (subst Earlier (sym e) earlier) kept)
 
-  pub broken_at : (which : Rule) (n i : ℕ) → number which ≡ n → Earlier n → Breaks g table k ls which i → IsFirstBroken g table k ls i (number which)
+  pub broken_at : (which : Rule) (n i : ℕ) → number which ≡ n → Earlier n → Breaks g table allocation k ls which i → IsFirstBroken g table allocation k ls i (number which)
   broken_at which n i e earlier b = record { which = which; is = refl; earlier = subst Earlier (sym e) earlier; broken = b }
 
   pub no_rule_below : Earlier 1

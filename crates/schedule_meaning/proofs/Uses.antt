@@ -1,6 +1,6 @@
 -- What a launch needs of an operand, and where a target is at the end, by the answers of what was called.
-use Rattle.std.proofs.Common.{◌≡◌, ◌↔◌, ℕ, ◌≤◌, List, refl, sym, ◌∙◌, ap, subst, inl, inr, Bool, true, false, ◌&&◌, Option, Some, None}
-use Rattle.std.specs.Prelude.{Any, IsTrue, ◌==◌}
+use Rattle.std.proofs.Common.{◌≡◌, ◌↔◌, ℕ, ◌≤◌, List, refl, sym, ◌∙◌, ap, subst, inl, inr, ◌⊎◌, Bool, true, false, ◌&&◌, Option, Some, None}
+use Rattle.std.specs.Prelude.{Any, IsTrue, nat_le, ◌==◌}
 use Rattle.std.specs.Option.{option_map_or}
 use Rattle.std.proofs.lemmas.Bool.{false≢true}
 use Rattle.machine_table.specs.Tables.{cluster_of}
@@ -8,12 +8,12 @@ use Rattle.machine_table.specs.declared.tables.Table.{Table}
 use Rattle.graph_meaning.specs.Graphs.{constant_of, is_memory_name, is_zero_class}
 use Rattle.graph_meaning.specs.declared.graphs.SetClass.{SetClass}
 use Rattle.graph_meaning.specs.declared.graphs.LaunchGraph.{LaunchGraph}
-use Rattle.schedule_meaning.specs.Launches.{launches, gives_word, class_at, ready_in, gives, Gives, HasInput, IsFree, IsUnspoilt, IsUnwritten, IsZero}
+use Rattle.schedule_meaning.specs.Launches.{launches, gives_word, class_at, ready_in, gives, is_byte_constant, is_free, Gives, HasInput, IsFree, IsUnspoilt, IsUnwritten, IsZero}
 use Rattle.schedule_meaning.specs.Fits.{IsWhereWanted, IsInSomeRegister, IsReached}
 use Rattle.schedule_meaning.specs.Readers.{passes, CanUse}
 use Rattle.schedule_meaning.specs.declared.schedules.Launch.{Launch}
 use Rattle.schedule_meaning.specs.declared.schedules.Operand.{Operand}
-use Rattle.schedule_meaning.proofs.Comparisons.{and_left, and_right, and_both, le_true, true_le}
+use Rattle.schedule_meaning.proofs.Comparisons.{and_left, and_right, and_both, or_cases, or_left, or_right, le_true, true_le}
 use Rattle.schedule_meaning.proofs.Pins.{same_number, number_same}
 
 -- the test and the fact that a launch gives a class
@@ -40,6 +40,36 @@ module _ (g : LaunchGraph) (class : ℕ) where
   zero_is b e = (
     (λ t. zero_from (constant_of g class) (sym e ∙ t)),
     λ z. e ∙ ap (λ o. option_map_or (λ n. n == 0) o false) z,
+  )
+
+-- the test and the fact that an operand needs no register
+module _ (g : LaunchGraph) (o : Operand) where
+  small_from : (q : Option ℕ) → option_map_or (λ n. nat_le n 255) q false ≡ true → (n : ℕ) × (q ≡ Some n) × (n ≤ 255)
+  small_from None t = absurd (false≢true t)
+  small_from (Some n) t = (n, refl, true_le n 255 t)
+
+  free_from : (is_zero_class g o.class ≡ true) ⊎ ((o.second && is_byte_constant g o.class) ≡ true) → IsFree g o
+  free_from (inl zero) = inl ((zero_is g o.class true (sym zero)).0 refl)
+  free_from (inr literal) =
+      inr (
+        and_left o.second (is_byte_constant g o.class) literal,
+        small_from (constant_of g o.class)
+            (and_right o.second (is_byte_constant g o.class) literal),
+      )
+
+  free_back : IsFree g o → is_free g o ≡ true
+  free_back (inl zero) =
+      or_left (is_zero_class g o.class) (o.second && is_byte_constant g o.class)
+      ((zero_is g o.class (is_zero_class g o.class) refl).1 zero)
+  free_back (inr (second, (n, is, small))) =
+      or_right (is_zero_class g o.class) (o.second && is_byte_constant g o.class)
+      (and_both o.second (is_byte_constant g o.class) second
+      (ap (λ q. option_map_or (λ n. nat_le n 255) q false) is ∙ le_true n 255 small))
+
+  pub free_is : (b : Bool) → b ≡ is_free g o → IsTrue b ↔ IsFree g o
+  free_is b e = (
+    (λ t. free_from (or_cases (is_zero_class g o.class) (o.second && is_byte_constant g o.class) (sym e ∙ t))),
+    λ f. e ∙ free_back f,
   )
 
 module _ (g : LaunchGraph) (table : Table) (ls : List Launch) (l : Launch) (o : Operand) where

@@ -1,13 +1,14 @@
 -- Which launch of a list breaks which rule first.
 -- Source: this project.
-use Rattle.std.specs.Prelude.{◌≡◌, ℕ, ◌<◌, ◌≤◌, List, length, Some, IsTrue, count_by, slice_get}
+use Rattle.std.specs.Prelude.{◌≡◌, ℕ, ◌<◌, List, length, Some, IsTrue, slice_get}
 use Rattle.graph_meaning.specs.Graphs.{memory_target}
-use Rattle.schedule_meaning.specs.Launches.{launches, is_store, takes_pool, memory_class_at, memory_before, memory_after}
-use Rattle.schedule_meaning.specs.Fits.{CanLaunch, CanGo, Collide, CanRead, EndsBy, AreReached, UsesMemory, HasOneBranch, Waits}
+use Rattle.schedule_meaning.specs.Launches.{launches, is_store, memory_class_at, memory_before, memory_after}
+use Rattle.schedule_meaning.specs.Fits.{CanLaunch, CanGo, Collide, CanRead, EndsBy, AreReached, UsesMemory, HasOneBranch, HasRoom, Waits}
 use Rattle.schedule_meaning.specs.declared.fitting.Rule.{Rule}
 use Rattle.schedule_meaning.specs.declared.fitting.Rule.TheVariants.{Rows, Apart, Operands, InTime, Targets, Memory, OneBranch, AfterBranch, Pool}
 use Rattle.machine_table.specs.declared.tables.Table.{Table}
 use Rattle.graph_meaning.specs.declared.graphs.LaunchGraph.{LaunchGraph}
+use Rattle.schedule_meaning.specs.declared.schedules.Allocation.{Allocation}
 use Rattle.schedule_meaning.specs.declared.schedules.Launch.{Launch}
 
 -- the launch m stands earlier in the list than place i, and R holds of it
@@ -32,10 +33,10 @@ number OneBranch = 7
 number AfterBranch = 8
 number Pool = 9
 
-module _ (g : LaunchGraph) (table : Table) (k : ℕ) (ls : List Launch) where
+module _ (g : LaunchGraph) (table : Table) (a : Allocation) (k : ℕ) (ls : List Launch) where
   -- what a rule asks of one launch
   abbrev pub Asks : Rule → ℕ → Launch → Type 0
-  Asks Rows i l = CanLaunch g table l × CanGo g l
+  Asks Rows i l = CanLaunch g table l × CanGo g a ls l
   Asks Apart i l = NoEarlier ls i (Collide l)
   Asks Operands i l = CanRead g table ls l
   Asks InTime i l = EndsBy g table k l
@@ -48,7 +49,7 @@ module _ (g : LaunchGraph) (table : Table) (k : ℕ) (ls : List Launch) where
   AsksOfAll Targets = AreReached g ls
   AsksOfAll Memory = memory_after g ls ≡ memory_target g
   AsksOfAll OneBranch = HasOneBranch g ls
-  AsksOfAll Pool = count_by (takes_pool g) ls ≤ length g.pool
+  AsksOfAll Pool = HasRoom g a k ls
   AsksOfAll _ = Unit {0}
 
   -- the rule is kept by the launches before place i

@@ -4,9 +4,12 @@ use Rattle.std.specs.Prelude.{◌≡◌, ℕ, ◌+◌, ◌<◌, ◌≤◌, List,
 use Rattle.machine_table.specs.Tables.{MayUse, latency_of}
 use Rattle.graph_meaning.specs.Graphs.{memory_target, is_memory_name, is_input_register}
 use Rattle.schedule_meaning.specs.Launches.{instr_at, launches, is_load, is_store, is_branch, operands_at, memory_class_at, class_at, IsZero, IsFree, IsUnwritten, HasInput, IsReadable, Gives, is_held, goes_to, overwrites, takes_pool}
+use Rattle.schedule_meaning.specs.Lifetimes.{holds}
 use Rattle.machine_table.specs.declared.tables.Table.{Table}
 use Rattle.graph_meaning.specs.declared.graphs.SetClass.{SetClass}
 use Rattle.graph_meaning.specs.declared.graphs.LaunchGraph.{LaunchGraph}
+use Rattle.schedule_meaning.specs.declared.schedules.Allocation.{Allocation}
+use Rattle.schedule_meaning.specs.declared.schedules.Allocation.TheVariants.{Block, Live}
 use Rattle.schedule_meaning.specs.declared.schedules.To.{To}
 use Rattle.schedule_meaning.specs.declared.schedules.To.TheVariants.{Pool, Set}
 use Rattle.schedule_meaning.specs.declared.schedules.Launch.{Launch}
@@ -16,18 +19,24 @@ use Rattle.machine_table.specs.declared.tables.InstrKind.TheVariants.{Beq}
 abbrev pub CanLaunch : LaunchGraph → Table → Launch → Type 0
 CanLaunch g table l = IsSomeAnd (instr_at g l.row) (λ i. MayUse table i l.slot)
 
--- the launch gives the set's word, and is no load where the pin is an input's register
-pub record CanGoToPin (g : LaunchGraph) (l : Launch) (s : SetClass) (r : ℕ) : Type 0 where
-  pub gives : Gives g s.class l
-  pub no_load : IsTrue (launches g is_load l) → ¬ IsTrue (is_input_register g r)
+-- a load may overwrite an input's register: nowhere; or where no store launches in its cycle
+abbrev pub MayLoadOver : LaunchGraph → Allocation → List Launch → Launch → Type 0
+MayLoadOver g Block ls l = ⊥
+MayLoadOver g Live ls l = All (λ m. IsTrue (launches g is_store m) → ¬ (m.cycle ≡ l.cycle)) ls
+
+-- the launch gives the set's word, and where it is a load and the pin an input's register, it may overwrite that
+pub record CanGoToPin (g : LaunchGraph) (a : Allocation) (ls : List Launch) (l : Launch) (s : SetClass) (r : ℕ) : Type 0
+  where
+    pub gives : Gives g s.class l
+    pub loads_over : IsTrue (launches g is_load l) → IsTrue (is_input_register g r) → MayLoadOver g a ls l
 
 -- the launch goes to the pool, or to a set that is there and has a pin
-abbrev pub CanGoTo : LaunchGraph → Launch → To → Type 0
-CanGoTo g l Pool = Unit {0}
-CanGoTo g l (Set j) = IsSomeAnd (slice_get g.sets j) (λ s. IsSomeAnd s.pin (CanGoToPin g l s))
+abbrev pub CanGoTo : LaunchGraph → Allocation → List Launch → Launch → To → Type 0
+CanGoTo g a ls l Pool = Unit {0}
+CanGoTo g a ls l (Set j) = IsSomeAnd (slice_get g.sets j) (λ s. IsSomeAnd s.pin (CanGoToPin g a ls l s))
 
-abbrev pub CanGo : LaunchGraph → Launch → Type 0
-CanGo g l = CanGoTo g l l.to
+abbrev pub CanGo : LaunchGraph → Allocation → List Launch → Launch → Type 0
+CanGo g a ls l = CanGoTo g a ls l l.to
 
 abbrev pub Collide : Launch → Launch → Type 0
 Collide l m = (l.cycle ≡ m.cycle) × (l.slot ≡ m.slot)
@@ -96,9 +105,14 @@ Waits g ls l =
     IsTrue (launches g is_store l) ⊎ (IsTrue (launches g is_load l) × IsTrue (is_held g)) ⊎ IsTrue (overwrites g l) →
     All (λ b. IsTrue (launches g is_branch b) → b.cycle ≤ l.cycle) ls
 
-pub record Fits (g : LaunchGraph) (table : Table) (k : ℕ) (ls : List Launch) : Type 0 where
+-- there is a register of the pool for each launch that takes one; or in each cycle below k for each that holds one
+abbrev pub HasRoom : LaunchGraph → Allocation → ℕ → List Launch → Type 0
+HasRoom g Block k ls = count_by (takes_pool g) ls ≤ length g.pool
+HasRoom g Live k ls = (t : ℕ) → t < k → count_by (holds g Live ls t) ls ≤ length g.pool
+
+pub record Fits (g : LaunchGraph) (table : Table) (a : Allocation) (k : ℕ) (ls : List Launch) : Type 0 where
   pub rows : All (CanLaunch g table) ls
-  pub destinations : All (CanGo g) ls
+  pub destinations : All (CanGo g a ls) ls
   pub apart : AllPairs (λ l m. ¬ Collide l m) ls
   pub operands : All (CanRead g table ls) ls
   pub in_time : All (EndsBy g table k) ls
@@ -106,4 +120,4 @@ pub record Fits (g : LaunchGraph) (table : Table) (k : ℕ) (ls : List Launch) :
   pub memory : KeepsMemory g ls
   pub one_branch : HasOneBranch g ls
   pub after_branch : All (Waits g ls) ls
-  pub pool : count_by (takes_pool g) ls ≤ length g.pool
+  pub pool : HasRoom g a k ls

@@ -1,10 +1,10 @@
 -- Which rows can be launched, where a launch's word goes, what it reads and gives, and in which order the words stand.
 -- Source: this project, over the launches of Denali (PLDI 2002) and the clusters of the Alpha 21264.
-use Rattle.std.specs.Prelude.{◌≡◌, ℕ, ◌+◌, ◌-◌, ◌<◌, ◌≤◌, List, [], ◌∷◌, length, Option, Some, None, ◌==◌, ◌&&◌, nat_lt, nat_le, Bool, true, false, not, unwrap_or, option_map, option_and_then, is_some, All, AllPairs, Any, if◌then◌else◌, IsTrue, ◌⊎◌, slice_get, slice_index, IsPermutation}
+use Rattle.std.specs.Prelude.{◌≡◌, ℕ, ◌+◌, ◌-◌, ◌<◌, ◌≤◌, List, [], ◌∷◌, length, Option, Some, None, ◌==◌, ◌&&◌, ◌||◌, nat_lt, nat_le, Bool, true, false, not, unwrap_or, option_map, option_and_then, is_some, All, AllPairs, Any, if◌then◌else◌, IsTrue, ◌⊎◌, slice_get, slice_index, IsPermutation}
 use Rattle.std.specs.Option.{option_map_or}
 use Rattle.machine_table.specs.InstrOrder.{operate_kind}
 use Rattle.machine_table.specs.Tables.{cluster_of, ready}
-use Rattle.graph_meaning.specs.Graphs.{constant_of, is_input_register, multiple_of}
+use Rattle.graph_meaning.specs.Graphs.{constant_of, is_input_register, is_zero_class, multiple_of}
 use Rattle.graph_meaning.specs.Multiples.{is_sum_multiple}
 use Rattle.word_ops.specs.Memory.{alignment}
 use Rattle.word_ops.specs.declared.sorts.Access.{Access}
@@ -191,6 +191,13 @@ IsByteConstant g class = (n : ℕ) × (constant_of g class ≡ Some n) × (n ≤
 -- the operand needs no register: the zero class, or a literal
 abbrev pub IsFree : LaunchGraph → Operand → Type 0
 IsFree g o = IsZero g o.class ⊎ (IsTrue o.second × IsByteConstant g o.class)
+
+-- the same, as a test
+abbrev pub is_byte_constant : LaunchGraph → ℕ → Bool
+is_byte_constant g class = option_map_or (λ n. nat_le n 255) (constant_of g class) false
+
+abbrev pub is_free : LaunchGraph → Operand → Bool
+is_free g o = is_zero_class g o.class || (o.second && is_byte_constant g o.class)
 
 -- the launch is of a row of the class, and gives its word
 abbrev pub Gives : LaunchGraph → ℕ → Launch → Type 0

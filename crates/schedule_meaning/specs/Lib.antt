@@ -1,8 +1,9 @@
 pub mod Limits
 pub mod Groups
 pub mod Launches
-pub mod Fits
 pub mod Readers
+pub mod Lifetimes
+pub mod Fits
 pub mod Broken
 pub mod Plain
 pub mod Worked

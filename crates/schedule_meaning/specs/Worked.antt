@@ -161,3 +161,26 @@ exchange_in_two = at_slot 0 0 5 ∷ to_set 0 2 4 0 ∷ to_set 1 0 5 1 ∷ []
 -- both at once
 abbrev pub exchange_in_one : List Launch
 exchange_in_one = to_set 0 0 4 0 ∷ to_set 0 2 5 1 ∷ []
+
+-- ---- registers by live ranges
+
+-- (set x (addq (addq a 1) a)), with two registers in the pool
+abbrev pub chain_graph : LaunchGraph
+chain_graph = record {
+  rows = plain_row 0 op.Entry [] ∷ plain_row 1 (op.Input 16) [] ∷ plain_row 2 (op.Constant 1) []
+      ∷ plain_row 3 (op.Word (ops.Operate operates.Addq)) (1 ∷ 2 ∷ [])
+      ∷ plain_row 4 (op.Word (ops.Operate operates.Addq)) (3 ∷ 1 ∷ []) ∷ [];
+  multiples = [];
+  entry = 0;
+  inputs = input_class (codes "a") 16 1 ∷ [];
+  pool = 1 ∷ 2 ∷ [];
+  guard = None;
+  sets = set_class (codes "x") 4 ∷ [];
+}
+
+-- the first sum is computed a second time: while the first word of it is read, and after that
+abbrev pub chain_at_once : List Launch
+chain_at_once = at_slot 0 0 3 ∷ at_slot 1 0 4 ∷ at_slot 1 2 3 ∷ []
+
+abbrev pub chain_in_turn : List Launch
+chain_in_turn = at_slot 0 0 3 ∷ at_slot 1 0 4 ∷ at_slot 2 0 3 ∷ []

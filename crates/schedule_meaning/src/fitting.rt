@@ -5,7 +5,7 @@ ghost use Rattle.schedule_meaning.specs.Broken as broken;
 
 use crate::destinations::can_go;
 use crate::operands::can_read;
-use crate::schedules::{Launch, Schedule};
+use crate::schedules::{Allocation, Launch, Schedule};
 use crate::stores::{keeps_memory, memory_is_left};
 use crate::targets::are_reached;
 use crate::testing::{can_launch, ends_by, has_one_branch, has_room, is_alone, waits};
@@ -25,7 +25,8 @@ pub struct Broken {
 #[derive(Clone, Copy, PartialEq, Eq, Debug)]
 pub enum Rule {
     /// Each launch is of a row that can be launched, of the branch or of a copy, in a slot that its instruction may
-    /// use, and goes to the pool or to a pinned set whose word it gives; no load overwrites an input.
+    /// use, and goes to the pool or to a pinned set whose word it gives. No load overwrites an input; by live ranges
+    /// none does in the cycle of a store.
     Rows,
     /// No two launches have one slot and one cycle.
     Apart,
@@ -44,7 +45,8 @@ pub enum Rule {
     /// No store is of an earlier cycle than the branch, nor is a load that waits for it, nor what overwrites an
     /// input.
     AfterBranch,
-    /// There is a register for each launch to the pool that gives a word.
+    /// There is a register for each launch to the pool that gives a word; by live ranges, in each cycle for each that
+    /// holds one.
     Pool,
 }
 
@@ -80,11 +82,12 @@ impl Rule {
     }
 }
 
-/// A list of launches, with the graph, the table and the cycles that it is to fit.
+/// A list of launches, with the graph, the table, the allocation and the cycles that it is to fit.
 #[derive(Clone, Copy)]
 struct Trial<'a> {
     graph: &'a LaunchGraph,
     table: &'a Table,
+    allocation: Allocation,
     k: u32,
     list: &'a [Launch],
 }
@@ -94,10 +97,14 @@ impl<'a> Trial<'a> {
     fn asks(&self, rule: Rule, at: usize, launch: Launch) -> bool
         requires { at ≤ length self.now.list.now }
         ensures { IsTrue result
-            ↔ broken.Asks self.now.graph.now self.now.table.now self.now.k self.now.list.now rule at launch }
+            ↔ broken.Asks self.now.graph.now self.now.table.now self.now.allocation self.now.k self.now.list.now
+            rule at launch }
     {
         match rule {
-            Rule::Rows => can_launch(self.graph, self.table, launch) && can_go(self.graph, launch),
+            Rule::Rows => {
+                can_launch(self.graph, self.table, launch)
+                    && can_go(self.graph, self.allocation, self.list, launch)
+            }
             Rule::Apart => is_alone(self.list, at, launch),
             Rule::Operands => can_read(self.graph, self.table, self.list, launch),
             Rule::InTime => ends_by(self.graph, self.table, self.k, launch),
@@ -110,13 +117,14 @@ impl<'a> Trial<'a> {
     /// What it asks of the schedule as a whole.
     fn asks_of_all(&self, rule: Rule) -> bool
         ensures { IsTrue result
-            ↔ broken.AsksOfAll self.now.graph.now self.now.table.now self.now.k self.now.list.now rule }
+            ↔ broken.AsksOfAll self.now.graph.now self.now.table.now self.now.allocation self.now.k self.now.list.now
+            rule }
     {
         match rule {
             Rule::Targets => are_reached(self.graph, self.table, self.list),
             Rule::Memory => memory_is_left(self.graph, self.list),
             Rule::OneBranch => has_one_branch(self.graph, self.list),
-            Rule::Pool => has_room(self.graph, self.list),
+            Rule::Pool => has_room(self.graph, self.allocation, self.k, self.list),
             _ => true,
         }
     }
@@ -125,8 +133,10 @@ impl<'a> Trial<'a> {
     fn first_broken(&self, rule: Rule) -> Option<u32>
         requires { length self.now.list.now < 2 ^ 29 }
         ensures { MatchOption result
-            (broken.IsKept self.now.graph.now self.now.table.now self.now.k self.now.list.now rule)
-            (λ i. broken.Breaks self.now.graph.now self.now.table.now self.now.k self.now.list.now rule i) }
+            (broken.IsKept self.now.graph.now self.now.table.now self.now.allocation self.now.k self.now.list.now
+            rule)
+            (λ i. broken.Breaks self.now.graph.now self.now.table.now self.now.allocation self.now.k
+            self.now.list.now rule i) }
     {
         for (at, launch) in self.list.iter().enumerate() {
             if !self.asks(rule, at, *launch) {
@@ -142,17 +152,26 @@ impl<'a> Trial<'a> {
 
 /// Whether the schedule fits the graph and the table in k cycles, and if not, the least rule that it breaks and the
 /// first launch that breaks it. The graph and the table may be any. Each rule is tested on the whole list before the
-/// next, so it makes at most the square of the launches in steps, times the graph's rows. It takes no memory.
-pub fn fits(graph: &LaunchGraph, table: &Table, k: u32, schedule: &Schedule) -> Result<(), Broken>
+/// next, so it makes at most the square of the launches in steps, times the graph's rows. By live ranges the rule on the
+/// pool, which is the last, goes over all launches' operands for each launch in each of the k cycles. It takes no
+/// memory.
+pub fn fits(
+    graph: &LaunchGraph,
+    table: &Table,
+    allocation: Allocation,
+    k: u32,
+    schedule: &Schedule,
+) -> Result<(), Broken>
     requires few { length schedule.now.launches < 2 ^ 29 }
-    ensures fits { OnOk result (Fits graph.now table.now k schedule.now.launches) }
+    ensures fits { OnOk result (Fits graph.now table.now allocation k schedule.now.launches) }
     ensures broken { IfErr result
-        (λ b. broken.IsFirstBroken graph.now table.now k schedule.now.launches b.launch b.rule) }
-    ensures not { IfErr result (λ b. ¬ Fits graph.now table.now k schedule.now.launches) }
+        (λ b. broken.IsFirstBroken graph.now table.now allocation k schedule.now.launches b.launch b.rule) }
+    ensures not { IfErr result (λ b. ¬ Fits graph.now table.now allocation k schedule.now.launches) }
 {
     let trial = Trial {
         graph,
         table,
+        allocation,
         k,
         list: schedule.launches.as_slice(),
     };

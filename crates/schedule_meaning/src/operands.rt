@@ -126,10 +126,11 @@ pub(crate) fn is_zero_class(graph: &LaunchGraph, class: u32) -> bool
 }
 
 /// The operand needs no register: the zero class, or a literal.
-fn is_free(graph: &LaunchGraph, wanted: Operand) -> bool
-    ensures { IsTrue result ↔ launches.IsFree graph.now wanted }
+pub(crate) fn is_free(graph: &LaunchGraph, wanted: Operand) -> bool
+    ensures test { result ≡ launches.is_free graph.now wanted }
+    ensures fact { IsTrue result ↔ launches.IsFree graph.now wanted }
 {
-    if is_zero_class(graph, wanted.class) {
+    if graph.is_zero_class(wanted.class) {
         return true;
     }
     match graph.constant_of(wanted.class) {

@@ -25,6 +25,15 @@ pub struct Launch {
     pub to: To,
 }
 
+/// How long a launch keeps its register of the pool.
+#[derive(Clone, Copy, PartialEq, Eq, Debug)]
+pub enum Allocation {
+    /// To the end of the block.
+    Block,
+    /// As long as its class is needed.
+    Live,
+}
+
 /// The launches of a graph, in any order.
 #[derive(Drop)]
 pub struct Schedule {

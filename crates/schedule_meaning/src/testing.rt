@@ -1,12 +1,13 @@
 // What the rules on slots, cycles, branches and the pool ask of a launch, tested.
-ghost use Rattle.std.specs.Prelude.{◌≡◌, ◌↔◌, ◌⊎◌, ◌≤◌, ◌<◌, IsTrue, All, length, Some, count_by};
+ghost use Rattle.std.specs.Prelude.{◌≡◌, ◌↔◌, ◌⊎◌, ◌≤◌, ◌<◌, IsTrue, All, length};
 ghost use Rattle.schedule_meaning.specs.Launches as launches;
 ghost use Rattle.schedule_meaning.specs.Fits as rules;
 ghost use Rattle.schedule_meaning.specs.Broken.{NoEarlier};
 
+use crate::lifetimes::has_room_in_each;
 use crate::lookups::{instr_at, is_branch, is_held, is_load, is_store, overwrites};
 use crate::readers::taken_before;
-use crate::schedules::Launch;
+use crate::schedules::{Allocation, Launch};
 use graph_meaning::LaunchGraph;
 use machine_table::{InstrKind, Table};
 
@@ -91,9 +92,12 @@ pub(crate) fn has_one_branch(graph: &LaunchGraph, list: &[Launch]) -> bool
     count == 1
 }
 
-pub(crate) fn has_room(graph: &LaunchGraph, list: &[Launch]) -> bool
-    ensures { IsTrue result
-        ↔ (count_by (launches.takes_pool graph.now) list.now ≤ length graph.now.pool) }
+/// The pool has a register for each launch that takes one; or in each cycle below k for each that holds one.
+pub(crate) fn has_room(graph: &LaunchGraph, allocation: Allocation, k: u32, list: &[Launch]) -> bool
+    ensures { IsTrue result ↔ rules.HasRoom graph.now allocation k list.now }
 {
-    taken_before(graph, list, list.len()) <= graph.pool.len()
+    match allocation {
+        Allocation::Block => taken_before(graph, list, list.len()) <= graph.pool.len(),
+        Allocation::Live => has_room_in_each(graph, k, list),
+    }
 }

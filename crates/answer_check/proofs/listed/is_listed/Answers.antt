@@ -9,10 +9,11 @@ pub returns-in-Scheduled-clause-listed : goal.returns-in-Scheduled-clause-listed
 returns-in-Scheduled-clause-listed c =
     let g = c.args.graph.now in
     let table = c.args.table.now in
+    let a = c.args.allocation in
     let ls = c.in-Scheduled.schedule.launches in
-    subst (λ (claim : Claim). IfOk c.is_listing.result (λ b. IsTrue b ↔ IsListed table g claim)) (sym c.in-Scheduled.is)
+    subst (λ (claim : Claim). IfOk c.is_listing.result (λ b. IsTrue b ↔ IsListed table a g claim)) (sym c.in-Scheduled.is)
     (subst (λ (words : List ℕ). IfOk c.is_listing.result
-    (λ b. IsTrue b ↔ HasListing g table ls words c.in-Scheduled.places)) c.as_slice.ensures
+    (λ b. IsTrue b ↔ HasListing g table a ls words c.in-Scheduled.places)) c.as_slice.ensures
     (subst (λ (places : List Where). IfOk c.is_listing.result
-    (λ b. IsTrue b ↔ HasListing g table ls c.as_slice.result.now places)) c.as_slice-in-Scheduled.ensures
+    (λ b. IsTrue b ↔ HasListing g table a ls c.as_slice.result.now places)) c.as_slice-in-Scheduled.ensures
     c.is_listing.ensures.same))

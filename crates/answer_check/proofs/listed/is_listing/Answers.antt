@@ -22,15 +22,15 @@ returns-clause-same c =
     let places = c.args.places.now in
     elim c.if-same.branch [
       | then-same w ↦ (
-        λ yes. are_listed g table ls items wheres own listing own_are words places (c.same_words-same.ensures.0 w.if-same.true)
+        λ yes. are_listed g table c.args.allocation ls items wheres own listing own_are words places (c.same_words-same.ensures.0 w.if-same.true)
             (w.same_places.ensures.0 (sym w.result-is ∙ yes) ∙ w.as_slice-then-same.ensures),
         λ h. w.result-is
-            ∙ w.same_places.ensures.1 (same_places_then g table ls items wheres own listing own_are words places h
+            ∙ w.same_places.ensures.1 (same_places_then g table c.args.allocation ls items wheres own listing own_are words places h
             ∙ sym w.as_slice-then-same.ensures),
       )
       | else-same w ↦ (
         λ yes. absurd (false≢true (sym w.if-same.false ∙ sym w.result-is ∙ yes)),
         λ h. w.result-is
-            ∙ c.same_words-same.ensures.1 (same_words_then g table ls items wheres own listing own_are words places h),
+            ∙ c.same_words-same.ensures.1 (same_words_then g table c.args.allocation ls items wheres own listing own_are words places h),
       )
     ]

@@ -11,7 +11,7 @@ returns-in-Refuted c = λ clauses_for g table s ends.
       ends.last lines c.in-Refuted.is,
       (
         Some lines,
-        least_after clauses_for g table s.conflicts r.k r.below lines ends.least
-            (subst (λ (t : Trial). IsTrial clauses_for g table r.k s.conflicts t) c.in-Refuted.is ends.trial),
+        least_after clauses_for g table s.allocation s.conflicts r.k r.below lines ends.least
+            (subst (λ (t : Trial). IsTrial clauses_for g table s.allocation r.k s.conflicts t) c.in-Refuted.is ends.trial),
       ),
     )

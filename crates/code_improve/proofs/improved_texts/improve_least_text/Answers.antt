@@ -2,7 +2,6 @@ use Rattle.std.proofs.Common.{◌≡◌, ◌∙◌, ◌++◌, List, ap, length, 
 use Rattle.std.specs.List.{AllZip}
 use Rattle.std.proofs.lemmas.List.{length-map}
 use Rattle.std.proofs.lemmas.Slice.Zip.{AllZip-long}
-use Rattle.cycle_encoding.specs.declared.encodings.Encoding.TheVariants.{Pinned}
 use Rattle.code_lift.specs.Goals.{input_of_lifts}
 use Rattle.code_lift.specs.Views.{lifts_view}
 use Rattle.denali_run.specs.ClaimedResults.{StartsWithinFormat, answer_text, answer_to}
@@ -21,7 +20,7 @@ use Rattle.code_improve.proofs.improved_texts.improve_least_text.Goals as goal
 pub report_least-requires : goal.report_least-requires
 report_least-requires c =
     ap (λ (rs : List Answered). length rs) c.deref.ensures.value
-    ∙ AllZip-long (λ goal answered. Right Pinned (input_view c.in_ok-input.input) goal c.args.settings.now answered)
+    ∙ AllZip-long (λ goal answered. Right (input_view c.in_ok-input.input) goal c.args.settings.now answered)
     (map goal_view c.in_ok-input.input.goals) c.in_ok-solved.solved.results.items c.in_ok-solved.ensures.right
     ∙ length-map c.in_ok-input.input.goals goal_view
 
@@ -36,15 +35,15 @@ returns-clause-answered c =
     let is : IsInput (input_of_lifts lifts) = well.well_formed lifts c.in_ok-lifts.ensures.well_formed in
     let starts : StartsWithinFormat (input_of_lifts lifts) =
     starts_within (input_of_lifts lifts) is (well.few lifts c.in_ok-lifts.ensures.well_formed) in
-    let right : AreRightResults Pinned (input_of_lifts lifts) settings results =
-    subst (λ (i : InputTree). AreRightResults Pinned i settings results) same c.in_ok-solved.ensures.right in
-    let each : AllZip (IsTailOf lifts.table settings.conflicts) results said =
-    subst (λ (t : Table). AllZip (IsTailOf t settings.conflicts) results said) (ap (λ (i : InputTree). i.table) same)
+    let right : AreRightResults (input_of_lifts lifts) settings results =
+    subst (λ (i : InputTree). AreRightResults i settings results) same c.in_ok-solved.ensures.right in
+    let each : AllZip (IsTailOf lifts.table settings.allocation settings.conflicts) results said =
+    subst (λ (t : Table). AllZip (IsTailOf t settings.allocation settings.conflicts) results said) (ap (λ (i : InputTree). i.table) same)
     c.in_ok-solved.ensures.said in
     let bytes : c.in_ok-report_least.field-0.bytes.items
-    ≡ answer_text Pinned c.args.settings.now.library (input_of_lifts lifts) results ++ lines_text (tail_lines said) =
+    ≡ answer_text c.args.settings.now (input_of_lifts lifts) results ++ lines_text (tail_lines said) =
     c.in_ok-report_least.ensures.bytes
-    ∙ (λ j. answer_text Pinned c.args.settings.now.library (same j) (c.deref.ensures.value j) ++ lines_text (tail_lines (c.deref-2.ensures.value j))) in
+    ∙ (λ j. answer_text c.args.settings.now (same j) (c.deref.ensures.value j) ++ lines_text (tail_lines (c.deref-2.ensures.value j))) in
     record {
       lifts = lifts;
       reads = c.in_ok-lifts.ensures.lifts;
@@ -55,7 +54,7 @@ returns-clause-answered c =
       said = said;
       each = each;
       bytes_are = bytes;
-      read_back = subst (λ (bs : List _). ReadsTailed bs (answer_to Pinned c.args.settings.now.library (input_of_lifts lifts) results) said) (sym bytes)
+      read_back = subst (λ (bs : List _). ReadsTailed bs (answer_to c.args.settings.now (input_of_lifts lifts) results) said) (sym bytes)
           (c.tailed_answers_are_read.ensures settings (input_of_lifts lifts) results said is c.requires.settings starts right each);
       status_is = c.in_ok-report_least.ensures.status
           ∙ (λ j. least_status (c.deref.ensures.value j) (c.deref-2.ensures.value j));

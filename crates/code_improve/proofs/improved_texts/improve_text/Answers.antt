@@ -1,7 +1,6 @@
 use Rattle.std.proofs.Common.{◌≡◌, ◌∙◌, List, ap, length, map, subst, sym}
 use Rattle.std.proofs.lemmas.List.{length-map}
 use Rattle.std.proofs.lemmas.Slice.Zip.{AllZip-long}
-use Rattle.cycle_encoding.specs.declared.encodings.Encoding.TheVariants.{Pinned}
 use Rattle.code_lift.specs.Goals.{input_of_lifts}
 use Rattle.code_lift.specs.Views.{lifts_view}
 use Rattle.denali_run.specs.ClaimedResults.{StartsWithinFormat, answer_text, answer_to}
@@ -17,7 +16,7 @@ use Rattle.code_improve.proofs.improved_texts.improve_text.Goals as goal
 pub answer_text-requires : goal.answer_text-requires
 answer_text-requires c =
     ap (λ (rs : List Answered). length rs) c.deref.ensures.value
-    ∙ AllZip-long (λ goal answered. Right Pinned (input_view c.in_ok-input.input) goal c.args.settings.now answered)
+    ∙ AllZip-long (λ goal answered. Right (input_view c.in_ok-input.input) goal c.args.settings.now answered)
     (map goal_view c.in_ok-input.input.goals) c.in_ok-results.results.items c.in_ok-results.ensures.right
     ∙ length-map c.in_ok-input.input.goals goal_view
 
@@ -31,10 +30,10 @@ returns-clause-answered c =
     let is : IsInput (input_of_lifts lifts) = well.well_formed lifts c.in_ok-lifts.ensures.well_formed in
     let starts : StartsWithinFormat (input_of_lifts lifts) =
     starts_within (input_of_lifts lifts) is (well.few lifts c.in_ok-lifts.ensures.well_formed) in
-    let right : AreRightResults Pinned (input_of_lifts lifts) settings results =
-    subst (λ (i : InputTree). AreRightResults Pinned i settings results) same c.in_ok-results.ensures.right in
-    let bytes : c.in_ok-answer_text.field-0.bytes.items ≡ answer_text Pinned c.args.settings.now.library (input_of_lifts lifts) results =
-    c.in_ok-answer_text.ensures.bytes ∙ (λ j. answer_text Pinned c.args.settings.now.library (same j) (c.deref.ensures.value j)) in
+    let right : AreRightResults (input_of_lifts lifts) settings results =
+    subst (λ (i : InputTree). AreRightResults i settings results) same c.in_ok-results.ensures.right in
+    let bytes : c.in_ok-answer_text.field-0.bytes.items ≡ answer_text c.args.settings.now (input_of_lifts lifts) results =
+    c.in_ok-answer_text.ensures.bytes ∙ (λ j. answer_text c.args.settings.now (same j) (c.deref.ensures.value j)) in
     record {
       lifts = lifts;
       reads = c.in_ok-lifts.ensures.lifts;
@@ -43,7 +42,7 @@ returns-clause-answered c =
       same = all_same settings lifts (λ lift f is_lift one. c.improved_code_is_the_same.ensures settings lifts lift f is_lift one)
           lifts.lifts results c.in_ok-lifts.ensures.well_formed.each right;
       bytes_are = bytes;
-      read_back = subst (λ (bs : List _). ReadsAnswer bs (answer_to Pinned c.args.settings.now.library (input_of_lifts lifts) results)) (sym bytes)
+      read_back = subst (λ (bs : List _). ReadsAnswer bs (answer_to c.args.settings.now (input_of_lifts lifts) results)) (sym bytes)
           (c.right_answers_are_read.ensures settings (input_of_lifts lifts) results is c.requires.settings starts right);
       status_is = c.in_ok-answer_text.ensures.status ∙ ap greatest_status c.deref.ensures.value;
     }

@@ -42,4 +42,4 @@ returns c =
     c.loop-slot.invariant
     ∙ ap (λ (s : ℕ). old ++ destined_slots table instr row first c.cycles-cycles.result tos s) end
     ∙ ap (λ (n : ℕ). old ++ destined_slots table instr row first n tos (length table.slots)) c.cycles-cycles.ensures
-    ∙ ap (λ (ls : List Launch). old ++ ls) (sym (row_is g table c.args.k c.args.first row instr c.in-Some-latency.latency first tos (sym c.instr_at.ensures ∙ c.in-Some.is) (sym c.latency.ensures ∙ c.in-Some-latency.is) c.in-Some-first.is c.in_ok-tos.ensures.value))
+    ∙ ap (λ (ls : List Launch). old ++ ls) (sym (row_is g table c.args.allocation c.args.k c.args.first row instr c.in-Some-latency.latency first tos (sym c.instr_at.ensures ∙ c.in-Some.is) (sym c.latency.ensures ∙ c.in-Some-latency.is) c.in-Some-first.is c.in_ok-tos.ensures.value))

@@ -6,6 +6,6 @@ use Rattle.cycle_encoding.proofs.coming.earliest_cycles.Given as goal
 abbrev pub invariant-loop-cycle : goal.invariant-loop-cycle
 invariant-loop-cycle l = record {
   long : length l.come.items ≡ next_class l.facts.rows;
-  sound : AreSound l.facts l.table l.come.items;
-  passed : (cycle row : ℕ) → cycle < l.cycle → IsPassed l.facts l.table l.come.items cycle row;
+  sound : AreSound l.facts l.table l.allocation l.come.items;
+  passed : (cycle row : ℕ) → cycle < l.cycle → IsPassed l.facts l.table l.allocation l.come.items cycle row;
 }

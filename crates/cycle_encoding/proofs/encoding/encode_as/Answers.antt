@@ -2,6 +2,7 @@ use Rattle.std.proofs.Common.{◌≡◌, ◌∙◌, ap, sym, subst, arith, ℕ, 
 use Rattle.std.proofs.lemmas.Result.{err_from_is_err_and}
 use Rattle.graph_meaning.specs.declared.graphs.LaunchGraph.{LaunchGraph}
 use Rattle.machine_table.specs.declared.tables.Table.{Table}
+use Rattle.cycle_encoding.specs.CycleFormula.{allocation_in}
 use Rattle.cycle_encoding.specs.CycleFormula.{Listed, Scope, first_cycle_in}
 use Rattle.cycle_encoding.specs.Counts.{cycle_vars, cycle_size}
 use Rattle.cycle_encoding.specs.CycleFormula.{listed_in}
@@ -94,8 +95,8 @@ returns-clause-plan c =
     let own = own-list c.args.encoding g c.in_ok-facts.facts table k s c.in_ok-facts.ensures (c.in_ok-scope.ensures.lists k c.requires.cycles) in
     λ l a.
     c.in_ok-build_cycles.ensures.plan
-    ∙ ap {A = LaunchGraph} {B = Plan} (λ x. record { encoding = s.encoding; cycles = k; launches = launches_from x table k (first_cycle_in s); overwritten = before_overwritten (listed_in x table k s) }) c.in_ok-facts.ensures
-    ∙ ap {A = Encoding} {B = Plan} (λ e. record { encoding = e; cycles = k; launches = launches_from g table k (first_cycle_in s); overwritten = before_overwritten (listed_in g table k s) }) c.in_ok-scope.ensures.encoding
+    ∙ ap {A = LaunchGraph} {B = Plan} (λ x. record { encoding = s.encoding; cycles = k; launches = launches_from x table (allocation_in s) k (first_cycle_in s); overwritten = before_overwritten (listed_in x table k s) }) c.in_ok-facts.ensures
+    ∙ ap {A = Encoding} {B = Plan} (λ e. record { encoding = e; cycles = k; launches = launches_from g table (allocation_in s) k (first_cycle_in s); overwritten = before_overwritten (listed_in g table k s) }) c.in_ok-scope.ensures.encoding
     ∙ ap {A = Listed} {B = Plan} (λ x. record { encoding = c.args.encoding; cycles = k; launches = x.launches; overwritten = before_overwritten x }) (sym (c.each_encoding_has_one_list.ensures c.args.encoding g table k l (listed_in g table k s) a own))
 
 pub returns-clause-within : goal.returns-clause-within

@@ -16,7 +16,7 @@ returns-clause-value c =
     let row = c.args.row in
     let i = c.in-Some.instr in
     let f : To → ℕ = λ to. count_by (needs_clause g to) (operands_at g row) in
-    let class : c.class_at.result ≡ class_at g row = c.class_at.ensures ∙ ap (λ (g : LaunchGraph). class_at g row) c.graph.ensures in
+    let class : c.class_at-class.result ≡ class_at g row = c.class_at-class.ensures ∙ ap (λ (g : LaunchGraph). class_at g row) c.graph.ensures in
     ap (λ n. n + c.set_needs.result) c.needed_count-own.ensures.value
-    ∙ ap (λ n. f Pool + n) (c.set_needs.ensures.value ∙ ap (λ (n : ℕ). sum_by (λ j. one_if (takes g i n j) * f (Set j)) (pinned_sets g)) class)
-    ∙ sym (sum_all g row f i (sym c.instr_at.ensures ∙ c.in-Some.is) (sym c.gives_word.ensures ∙ c.if-not-gives_word.false))
+    ∙ ap (λ n. f Pool + n) (c.set_needs.ensures.value ∙ ap (λ (n : ℕ). sum_by (λ j. one_if (takes g c.args.allocation i n j) * f (Set j)) (pinned_sets g)) class)
+    ∙ sym (sum_all g c.args.allocation row f i (sym c.instr_at.ensures ∙ c.in-Some.is) (sym c.gives_word.ensures ∙ c.if-not-gives_word.false))

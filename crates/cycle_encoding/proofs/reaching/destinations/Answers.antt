@@ -17,6 +17,6 @@ returns-clause-value c =
     let end : length (pinned_sets g) ≤ c.loop-set.set-index = subst (λ (js : List ℕ). length js ≤ c.loop-set.set-index) c.pins-set-items.ensures.value c.loop-set-test.false in
     let all = take_all c.loop-set.set-index (pinned_sets g) end in
     c.loop-set.invariant.are
-    ∙ ap (λ (js : List ℕ). Pool ∷ map Set (filter (takes g i c.class_at-class.result) js)) all
-    ∙ ap (λ (n : ℕ). Pool ∷ map Set (filter (takes g i n) (pinned_sets g))) class
-    ∙ sym (places_are g row i (sym c.instr_at.ensures ∙ c.in-Some.is) (sym c.gives_word.ensures ∙ c.if-not-gives_word.false))
+    ∙ ap (λ (js : List ℕ). Pool ∷ map Set (filter (takes g c.args.allocation i c.class_at-class.result) js)) all
+    ∙ ap (λ (n : ℕ). Pool ∷ map Set (filter (takes g c.args.allocation i n) (pinned_sets g))) class
+    ∙ sym (places_are g c.args.allocation row i (sym c.instr_at.ensures ∙ c.in-Some.is) (sym c.gives_word.ensures ∙ c.if-not-gives_word.false))

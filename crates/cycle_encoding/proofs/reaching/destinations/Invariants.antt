@@ -5,4 +5,4 @@ use Rattle.cycle_encoding.specs.Variables.{takes, pinned_sets}
 use Rattle.cycle_encoding.proofs.reaching.destinations.Given as goal
 
 abbrev pub invariant-loop-set : goal.invariant-loop-set
-invariant-loop-set l = record { are : l.tos.items ≡ Pool ∷ map Set (filter (takes l.facts l.instr l.class) (take l.set-index (pinned_sets l.facts))); few : length l.tos.items ≤ l.set-index + 1 }
+invariant-loop-set l = record { are : l.tos.items ≡ Pool ∷ map Set (filter (takes l.facts l.allocation l.instr l.class) (take l.set-index (pinned_sets l.facts))); few : length l.tos.items ≤ l.set-index + 1 }

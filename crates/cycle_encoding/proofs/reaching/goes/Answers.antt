@@ -16,5 +16,5 @@ returns-clause-value c =
     let g = c.args.facts.now in
     let i = c.in-Some.instr in
     let w : gives_word i ≡ true = sym c.gives_word.ensures ∙ c.if-not-gives_word.false in
-    let class = c.class_at.ensures ∙ ap (λ (x : LaunchGraph). class_at x c.args.row) c.graph.ensures in
-    c.from.ensures ∙ byte_is c.takes.result ∙ ap one_if (c.takes.ensures ∙ ap (λ n. takes g i n c.args.set) class) ∙ sym (goes_is g c.args.row c.args.set i (sym c.in-Some.ensures) w)
+    let class = c.class_at-class.ensures ∙ ap (λ (x : LaunchGraph). class_at x c.args.row) c.graph.ensures in
+    c.from.ensures ∙ byte_is c.takes.result ∙ ap one_if (c.takes.ensures ∙ ap (λ n. takes g c.args.allocation i n c.args.set) class) ∙ sym (goes_is g c.args.allocation c.args.row c.args.set i (sym c.in-Some.ensures) w)

@@ -24,7 +24,7 @@ returns-clause-value c =
     let all = take_all c.loop-set.set-index (pinned_sets g) end in
     let f : To → ℕ = λ to. one_if (option_map_or (is_input_register g) (pin_of g to) false) in
     c.loop-set.invariant.is
-    ∙ ap (λ (js : List ℕ). sum_by (λ j. one_if (takes g i c.class_at-class.result j) * one_if (is_overwriting g j)) js) all
-    ∙ ap (λ (n : ℕ). sum_by (λ j. one_if (takes g i n j) * one_if (is_overwriting g j)) (pinned_sets g)) class
-    ∙ none_first (sum_by (λ j. one_if (takes g i (class_at g row) j) * one_if (is_overwriting g j)) (pinned_sets g))
-    ∙ sym (sum_all g row f i (sym c.instr_at.ensures ∙ c.in-Some.is) (sym c.gives_word.ensures ∙ c.if-not-gives_word.false))
+    ∙ ap (λ (js : List ℕ). sum_by (λ j. one_if (takes g c.args.allocation i c.class_at-class.result j) * one_if (is_overwriting g j)) js) all
+    ∙ ap (λ (n : ℕ). sum_by (λ j. one_if (takes g c.args.allocation i n j) * one_if (is_overwriting g j)) (pinned_sets g)) class
+    ∙ none_first (sum_by (λ j. one_if (takes g c.args.allocation i (class_at g row) j) * one_if (is_overwriting g j)) (pinned_sets g))
+    ∙ sym (sum_all g c.args.allocation row f i (sym c.instr_at.ensures ∙ c.in-Some.is) (sym c.gives_word.ensures ∙ c.if-not-gives_word.false))

@@ -8,4 +8,4 @@ use Rattle.cycle_encoding.proofs.reaching.takes_register.Goals as goal
 
 pub returns-then-gives_word-clause-value : goal.returns-then-gives_word-clause-value
 returns-then-gives_word-clause-value c =
-    sym (pool_all c.args.facts.now c.args.row ∙ ap one_if (sym (c.gives_word.ensures ∙ ap (λ (i : Option InstrKind). option_map_or gives_word i false) c.instr_at.ensures) ∙ c.if-gives_word.true))
+    sym (pool_all c.args.facts.now c.args._allocation c.args.row ∙ ap one_if (sym (c.gives_word.ensures ∙ ap (λ (i : Option InstrKind). option_map_or gives_word i false) c.instr_at.ensures) ∙ c.if-gives_word.true))

@@ -26,4 +26,4 @@ returns-in_err-library-clause-value c =
 
 pub returns-clause-value : goal.returns-clause-value
 returns-clause-value c =
-    rw (← c.in_ok-rounds.ensures.value, ← c.in_ok-nodes.ensures.value, ← c.in_ok-cycles.ensures.value, ← c.in_ok-conflicts.ensures.value, ← c.in_ok-pick.ensures, ← c.in_ok-library.ensures, ← c.has_least-least.ensures) refl
+    rw (← c.in_ok-rounds.ensures.value, ← c.in_ok-nodes.ensures.value, ← c.in_ok-cycles.ensures.value, ← c.in_ok-conflicts.ensures.value, ← c.in_ok-pick.ensures, ← c.in_ok-library.ensures, ← c.has_flag-least.ensures, ← c.has_flag-live.ensures) refl

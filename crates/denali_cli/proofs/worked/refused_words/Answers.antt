@@ -22,6 +22,14 @@ flag_twice : command_of (codes "solve" ∷ codes "--least" ∷ codes "--least" �
 unfolding clap_on_literals matched digits
 flag_twice = refl
 
+live_twice : command_of (codes "solve" ∷ codes "--live" ∷ codes "--live" ∷ []) ≡ None
+unfolding clap_on_literals matched digits
+live_twice = refl
+
+live_anyway : command_of (codes "improve" ∷ codes "--live" ∷ []) ≡ None
+unfolding clap_on_literals matched digits
+live_anyway = refl
+
 flag_with_value : command_of (codes "solve" ∷ codes "--least=true" ∷ []) ≡ None
 unfolding clap_on_literals matched digits
 flag_with_value = refl
@@ -136,6 +144,8 @@ returns c = record {
   no_flag_of_procs = no_flag_of_procs;
   checks_least_once = checks_least_once;
   flag_twice = flag_twice;
+  live_twice = live_twice;
+  live_anyway = live_anyway;
   flag_with_value = flag_with_value;
   no_flag_of_codes = no_flag_of_codes;
   no_option_of_checks = no_option_of_checks;

@@ -1,5 +1,5 @@
 -- By computing clap's definition.
-use Rattle.std.proofs.Common.{◌≡◌, [], ◌∷◌, Some, codes, refl}
+use Rattle.std.proofs.Common.{◌≡◌, [], ◌∷◌, Some, codes, refl, true}
 use Rattle.std.specs.Fmt.{digits}
 use Rattle.clap.proofs.OnLiterals.{clap_on_literals}
 use Rattle.denali_run.specs.declared.settings.Pick.TheVariants.{Last, Busy}
@@ -81,6 +81,16 @@ plain_flag : spelled_command (codes "solve" ∷ codes "--rounds" ∷ codes "3" �
 unfolding clap_on_literals matched digits
 plain_flag = refl
 
+solves_live : command_of (codes "solve" ∷ codes "--live" ∷ codes "--least" ∷ [])
+    ≡ Some (SolveLeast (settings_of no_library (record no_options { live = true })))
+unfolding clap_on_literals matched digits
+solves_live = refl
+
+links_live : command_of (codes "proc" ∷ codes "--cycles=9" ∷ codes "--live" ∷ [])
+    ≡ Some (Proc (settings_of no_library (record no_options { cycles = Some 9; live = true })))
+unfolding clap_on_literals matched digits
+links_live = refl
+
 trims : command_of (codes "trim" ∷ []) ≡ Some Trim
 unfolding clap_on_literals matched digits
 trims = refl
@@ -157,6 +167,8 @@ returns c = record {
   flag_among_pairs = flag_among_pairs;
   flag_in_another_spelling = flag_in_another_spelling;
   plain_flag = plain_flag;
+  solves_live = solves_live;
+  links_live = links_live;
   trims = trims;
   verifies = verifies;
   joined_rounds = joined_rounds;

@@ -3,7 +3,7 @@ use Rattle.denali_run.proofs.ReadBackLaws.{Laws}
 use Rattle.denali_run.proofs.laws.one_text_has_one_answer.Goals as goal
 
 pub returns : goal.returns
-returns c = λ e s input results others is set right also same.
+returns c = λ s input results others is set right also same.
     let laws : Laws = record {
       number = c.printed_lines_are_lines.ensures.number;
       name = c.printed_lines_are_lines.ensures.name;
@@ -20,4 +20,4 @@ returns c = λ e s input results others is set right also same.
       one_line = c.printed_lines_are_read_back.ensures.one;
       refutation_lines = c.printed_lines_are_read_back.ensures.lines;
     } in
-    results_once laws e s input results others is set right also same
+    results_once laws s input results others is set right also same

@@ -1,8 +1,18 @@
-use Rattle.cycle_encoding.specs.declared.encodings.Encoding.TheVariants.{Pinned}
+use Rattle.std.proofs.Common.{subst}
+use Rattle.cycle_encoding.specs.Encodings.{IsScope}
+use Rattle.cycle_encoding.specs.declared.encodings.Encoding.{Encoding}
 use Rattle.denali_run.proofs.RisingCycles.{reached_in}
 use Rattle.denali_run.proofs.searching.reach.Goals as goal
 
+pub reach_in-requires-clause-scope : goal.reach_in-requires-clause-scope
+reach_in-requires-clause-scope g c =
+    subst (λ (e : Encoding). IsScope e c.in_ok-facts.facts c.args.table.now c.in_ok-scope.scope) c.encoding.ensures
+    c.in_ok-scope.ensures
+
 pub returns : goal.returns
 returns g c =
-    reached_in Pinned c.args.graph.now c.in_ok-facts.facts c.args.table.now c.in_ok-scope.scope c.args.settings.now
-    c.in_ok-facts.ensures c.in_ok-scope.ensures c.reach_in.result c.reach_in.ensures
+    reached_in c.args.graph.now c.in_ok-facts.facts c.args.table.now c.in_ok-scope.scope c.args.settings.now
+    c.in_ok-facts.ensures
+    (subst (λ (e : Encoding). IsScope e c.in_ok-facts.facts c.args.table.now c.in_ok-scope.scope) c.encoding.ensures
+    c.in_ok-scope.ensures)
+    c.reach_in.result c.reach_in.ensures

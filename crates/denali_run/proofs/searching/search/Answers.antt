@@ -8,7 +8,8 @@ use Rattle.denali_run.proofs.searching.search.Goals as goal
 pub assign-requires-clause-fits : goal.assign-requires-clause-fits
 assign-requires-clause-fits g c =
     let by = c.in_ok-reached.ensures in
-    (subst (IsTrial by.clauses_for c.args.matched.graph c.args.table.now c.in_ok-reached.reached.k c.args.settings.now.conflicts)
+    (subst (IsTrial by.clauses_for c.args.matched.graph c.args.table.now c.args.settings.now.allocation c.in_ok-reached.reached.k
+    c.args.settings.now.conflicts)
     c.in-Fitting.is by.holds.trial).1
 
 pub assign-requires-clause-few : goal.assign-requires-clause-few
@@ -30,7 +31,8 @@ returns-in_ok-words-in-Fitting g c = λ input goal is matched.
       refutation = c.in_ok-reached.reached.below;
     })
     by.clauses_for is matched by.holds.low by.formulas
-    (subst (IsTrial by.clauses_for c.args.matched.graph c.args.table.now c.in_ok-reached.reached.k c.args.settings.now.conflicts)
+    (subst (IsTrial by.clauses_for c.args.matched.graph c.args.table.now c.args.settings.now.allocation c.in_ok-reached.reached.k
+    c.args.settings.now.conflicts)
     c.in-Fitting.is by.holds.trial)
     c.in_ok-listing-in-Fitting.ensures.listing
     (subst (AreWordsOf c.in_ok-listing-in-Fitting.listing.items) (sym c.from.ensures)
@@ -46,9 +48,10 @@ returns-in-Refuted g c = λ input goal is matched.
     missing_right input goal c.args.settings.now c.args.table.now
     (record { matched = c.args.matched; k = k; refutation = lines }) by.clauses_for is matched
     (by.holds.last lines c.in-Refuted.is) by.formulas
-    (least_after by.clauses_for c.args.matched.graph c.args.table.now c.args.settings.now.conflicts k
+    (least_after by.clauses_for c.args.matched.graph c.args.table.now c.args.settings.now.allocation
+    c.args.settings.now.conflicts k
     c.in_ok-reached.reached.below lines by.holds.least
-    (subst (IsTrial by.clauses_for c.args.matched.graph c.args.table.now k c.args.settings.now.conflicts) c.in-Refuted.is
+    (subst (IsTrial by.clauses_for c.args.matched.graph c.args.table.now c.args.settings.now.allocation k c.args.settings.now.conflicts) c.in-Refuted.is
     by.holds.trial))
 
 pub returns-in-Spent : goal.returns-in-Spent
@@ -62,7 +65,8 @@ returns-in-Spent g c = λ input goal is matched.
       lemmas = c.in-Spent.lemmas;
     })
     by.clauses_for is matched by.holds.low by.formulas
-    (subst (IsTrial by.clauses_for c.args.matched.graph c.args.table.now c.in_ok-reached.reached.k c.args.settings.now.conflicts)
+    (subst (IsTrial by.clauses_for c.args.matched.graph c.args.table.now c.args.settings.now.allocation c.in_ok-reached.reached.k
+    c.args.settings.now.conflicts)
     c.in-Spent.is by.holds.trial)
     by.holds.least
 
@@ -78,6 +82,7 @@ returns-in-Large g c = λ input goal is matched.
       clauses = c.in-Large.clauses;
     })
     by.clauses_for is matched by.holds.low by.formulas
-    (subst (IsTrial by.clauses_for c.args.matched.graph c.args.table.now c.in_ok-reached.reached.k c.args.settings.now.conflicts)
+    (subst (IsTrial by.clauses_for c.args.matched.graph c.args.table.now c.args.settings.now.allocation c.in_ok-reached.reached.k
+    c.args.settings.now.conflicts)
     c.in-Large.is by.holds.trial)
     by.holds.least

@@ -7,7 +7,6 @@ use Rattle.denali_run.specs.ClaimedResults.{answer_text, answer_to}
 use Rattle.denali_run.specs.TextAnswers.{greatest_status}
 use Rattle.denali_run.specs.declared.results.Answered.{Answered}
 use Rattle.denali_run.specs.Right.{Right}
-use Rattle.cycle_encoding.specs.declared.encodings.Encoding.TheVariants.{Pinned}
 use Rattle.denali_run.proofs.AnsweredGoals.{as_many}
 use Rattle.denali_run.proofs.SmallTexts.{starts_small}
 use Rattle.denali_run.proofs.text_solving.solve_text.Goals as goal
@@ -15,7 +14,7 @@ use Rattle.denali_run.proofs.text_solving.solve_text.Goals as goal
 pub answer_text-requires : goal.answer_text-requires
 answer_text-requires c =
     subst (λ (rs : List Answered). length rs ≡ length c.in_ok-input.input.goals) (sym c.deref.ensures.value)
-    (as_many (λ goal answered. Right Pinned (input_view c.in_ok-input.input) goal c.args.settings.now answered)
+    (as_many (λ goal answered. Right (input_view c.in_ok-input.input) goal c.args.settings.now answered)
     (map goal_view c.in_ok-input.input.goals) c.in_ok-results.results.items c.in_ok-results.ensures.right
     ∙ length-map c.in_ok-input.input.goals goal_view)
 
@@ -27,9 +26,9 @@ returns-clause-answered c =
     let is : IsInput (input_view c.in_ok-input.input) =
     c.read_inputs_are_well_formed.ensures text input c.requires.few c.in_ok-input.ensures.input in
     let bytes : c.in_ok-answer_text.field-0.bytes.items
-    ≡ answer_text Pinned c.args.settings.now.library (input_view c.in_ok-input.input) c.in_ok-results.results.items =
+    ≡ answer_text c.args.settings.now (input_view c.in_ok-input.input) c.in_ok-results.results.items =
     c.in_ok-answer_text.ensures.bytes
-    ∙ ap (answer_text Pinned c.args.settings.now.library (input_view c.in_ok-input.input)) c.deref.ensures.value in
+    ∙ ap (answer_text c.args.settings.now (input_view c.in_ok-input.input)) c.deref.ensures.value in
     record {
       input = input;
       reads = c.in_ok-input.ensures.input;
@@ -37,7 +36,7 @@ returns-clause-answered c =
       right = c.in_ok-results.ensures.right;
       bytes_are = bytes;
       read_back = λ short.
-          subst (λ bytes. ReadsAnswer bytes (answer_to Pinned c.args.settings.now.library input results)) (sym bytes)
+          subst (λ bytes. ReadsAnswer bytes (answer_to c.args.settings.now input results)) (sym bytes)
           (c.right_answers_are_read.ensures c.args.settings.now input results is c.requires.settings
           (starts_small text input is (c.read_inputs_have_few_operators.ensures text input c.in_ok-input.ensures.input) short)
           c.in_ok-results.ensures.right);

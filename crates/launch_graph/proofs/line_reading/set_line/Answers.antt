@@ -5,5 +5,5 @@ use Rattle.launch_graph.proofs.line_reading.set_line.Goals as goal
 
 pub returns-then-words-eq4 : goal.returns-then-words-eq4
 returns-then-words-eq4 c =
-    pinned_line (line_at c.args.text.now c.args.line).words c.pinned_set_line.result c.if-version-eq2.true
+    pinned_line (line_at c.args.text.now c.args.line).words c.pinned_set_line.result c.if-version-ge2.true
     (sym c.words.ensures.count ∙ c.if-words-eq4.true) c.pinned_set_line.ensures

@@ -12,7 +12,7 @@ words_of-requires g c = subst (λ (xs : List Item). HaveWords xs) (sym c.as_slic
 pub overflow_cast-launches : goal.overflow_cast-launches
 overflow_cast-launches g c =
     let f = c.args.found in
-    let few = c.fitting_schedules_are_small.ensures.few f.matched.graph c.args.table.now f.k
+    let few = c.fitting_schedules_are_small.ensures.few f.matched.graph c.args.table.now c.args.allocation f.k
     c.in_ok-fewest.fewest.schedule.launches c.requires.table c.in_ok-fewest.ensures.fewest.fits in
     let cycles = c.requires.can.few in
     let size = c.len-launches.ensures in

@@ -18,9 +18,9 @@ returns-in_err-within_limits-clause-size c =
     let k = c.args.encoded.plan.cycles in
     let s = c.args.scope.now in
     let f = c.args.encoded.cnf in
-    let vars = counted p g table j k s c.cycles-k.ensures (λ (x : Formula). x.vars) (λ n. part_vars p g table n s) f c.grown-sizes.result.vars c.requires.formula (c.parts_are_counted.ensures.vars p g table k s) (c.grown-sizes.ensures.vars ∙ ap (λ n. f.vars + n) c.part_sizes.ensures.vars) in
-    let clauses = counted p g table j k s c.cycles-k.ensures (λ (x : Formula). length x.clauses) (λ n. part_size p g table n s) f c.grown-sizes.result.clauses c.requires.formula (c.parts_are_counted.ensures.clauses p g table k s) (c.grown-sizes.ensures.clauses ∙ ap (λ n. length f.clauses + n) c.part_sizes.ensures.clauses) in
-    let q = err_from_is_err_and c.from_residual.result c.from_residual.ensures.1 in
+    let vars = counted p g table j k s c.cycles-k.ensures (λ (x : Formula). x.vars) (λ n. part_vars p g table n s) f c.grown-sizes.result.vars c.requires.formula (c.parts_are_counted.ensures.vars p g table k s) (c.grown-sizes.ensures.vars ∙ ap (λ n. f.vars + n) c.in_ok-part_sizes.ensures.vars) in
+    let clauses = counted p g table j k s c.cycles-k.ensures (λ (x : Formula). length x.clauses) (λ n. part_size p g table n s) f c.grown-sizes.result.clauses c.requires.formula (c.parts_are_counted.ensures.clauses p g table k s) (c.grown-sizes.ensures.clauses ∙ ap (λ n. length f.clauses + n) c.in_ok-part_sizes.ensures.clauses) in
+    let q = err_from_is_err_and c.from_residual-in_err-within_limits.result c.from_residual-in_err-within_limits.ensures.1 in
     rw (q.1, q.2) (c.in_err-within_limits.ensures.size (with_part p g table k (listed_in g table k s)) vars clauses)
 
 pub extend-requires-clause-formula : goal.extend-requires-clause-formula
@@ -66,8 +66,8 @@ extend-requires-clause-within c =
     let k = c.args.encoded.plan.cycles in
     let s = c.args.scope.now in
     let f = c.args.encoded.cnf in
-    let vars = counted p g table j k s c.cycles-k.ensures (λ (x : Formula). x.vars) (λ n. part_vars p g table n s) f c.grown-sizes.result.vars c.requires.formula (c.parts_are_counted.ensures.vars p g table k s) (c.grown-sizes.ensures.vars ∙ ap (λ n. f.vars + n) c.part_sizes.ensures.vars) in
-    let clauses = counted p g table j k s c.cycles-k.ensures (λ (x : Formula). length x.clauses) (λ n. part_size p g table n s) f c.grown-sizes.result.clauses c.requires.formula (c.parts_are_counted.ensures.clauses p g table k s) (c.grown-sizes.ensures.clauses ∙ ap (λ n. length f.clauses + n) c.part_sizes.ensures.clauses) in
+    let vars = counted p g table j k s c.cycles-k.ensures (λ (x : Formula). x.vars) (λ n. part_vars p g table n s) f c.grown-sizes.result.vars c.requires.formula (c.parts_are_counted.ensures.vars p g table k s) (c.grown-sizes.ensures.vars ∙ ap (λ n. f.vars + n) c.in_ok-part_sizes.ensures.vars) in
+    let clauses = counted p g table j k s c.cycles-k.ensures (λ (x : Formula). length x.clauses) (λ n. part_size p g table n s) f c.grown-sizes.result.clauses c.requires.formula (c.parts_are_counted.ensures.clauses p g table k s) (c.grown-sizes.ensures.clauses ∙ ap (λ n. length f.clauses + n) c.in_ok-part_sizes.ensures.clauses) in
     subst (λ n. IsTooLarge (with_part p g table n (listed_in g table n s)) → ⊥) (sym c.cycles-k.ensures)
     (c.in_ok-within_limits.ensures.within (with_part p g table k (listed_in g table k s)) vars clauses)
 
@@ -80,8 +80,8 @@ returns-clause-within c =
     let k = c.args.encoded.plan.cycles in
     let s = c.args.scope.now in
     let f = c.args.encoded.cnf in
-    let vars = counted p g table j k s c.cycles-k.ensures (λ (x : Formula). x.vars) (λ n. part_vars p g table n s) f c.grown-sizes.result.vars c.requires.formula (c.parts_are_counted.ensures.vars p g table k s) (c.grown-sizes.ensures.vars ∙ ap (λ n. f.vars + n) c.part_sizes.ensures.vars) in
-    let clauses = counted p g table j k s c.cycles-k.ensures (λ (x : Formula). length x.clauses) (λ n. part_size p g table n s) f c.grown-sizes.result.clauses c.requires.formula (c.parts_are_counted.ensures.clauses p g table k s) (c.grown-sizes.ensures.clauses ∙ ap (λ n. length f.clauses + n) c.part_sizes.ensures.clauses) in
+    let vars = counted p g table j k s c.cycles-k.ensures (λ (x : Formula). x.vars) (λ n. part_vars p g table n s) f c.grown-sizes.result.vars c.requires.formula (c.parts_are_counted.ensures.vars p g table k s) (c.grown-sizes.ensures.vars ∙ ap (λ n. f.vars + n) c.in_ok-part_sizes.ensures.vars) in
+    let clauses = counted p g table j k s c.cycles-k.ensures (λ (x : Formula). length x.clauses) (λ n. part_size p g table n s) f c.grown-sizes.result.clauses c.requires.formula (c.parts_are_counted.ensures.clauses p g table k s) (c.grown-sizes.ensures.clauses ∙ ap (λ n. length f.clauses + n) c.in_ok-part_sizes.ensures.clauses) in
     c.in_ok-within_limits.ensures.within (with_part p g table k (listed_in g table k s)) vars clauses
 
 pub returns-clause-formula : goal.returns-clause-formula

@@ -6,10 +6,10 @@ use Rattle.schedule_meaning.specs.declared.schedules.Launch.{Launch}
 use Rattle.cycle_encoding.specs.CycleFormula.{before_overwritten, cycle_formula, listed_in}
 use Rattle.cycle_encoding.specs.Plans.{IsTooLarge}
 use Rattle.cycle_encoding.proofs.Built.{on_ok_more}
-use Rattle.order_encoding.specs.WholeFormula.{KnowsOverwritten, guard_formula, memory_formula, pool_formula, with_part}
-use Rattle.order_encoding.specs.declared.adding.Part.TheVariants.{Memory, Guard, Pool, Pins}
-use Rattle.order_encoding.proofs.Composed.{come_within, memory_less, over_within}
-use Rattle.order_encoding.proofs.Limits.{guard_is, memory_is, pins_is, pool_is, within_vars}
+use Rattle.order_encoding.specs.WholeFormula.{KnowsOverwritten, memory_formula, pins_formula, pool_formula, with_part}
+use Rattle.order_encoding.specs.declared.adding.Part.TheVariants.{Memory, Guard, Pool, Pins, Capacity}
+use Rattle.order_encoding.proofs.Composed.{come_within, launches_within, over_within, memory_pins}
+use Rattle.order_encoding.proofs.Limits.{capacity_is, guard_is, memory_is, pins_is, within_vars}
 use Rattle.order_encoding.proofs.PartSteps.{after_named, before_named, clauses_named, vars_named}
 use Rattle.order_encoding.proofs.adding.extend.Goals as goal
 
@@ -111,42 +111,35 @@ returns-in-Guard c =
     let is = guard_is g table k e c.args.launches.now c.requires.launches f before in
     on_ok_more _ _ c.extend_by_guard.result (λ new. after_named c.args.part Guard c.in-Guard.is g table k s c.extend_by_guard.new.cnf (new ∙ is)) c.extend_by_guard.ensures
 
-pub extend_by_pool-requires-clause-exist : goal.extend_by_pool-requires-clause-exist
-extend_by_pool-requires-clause-exist c =
+pub extend_by_pool-requires-clause-formula : goal.extend_by_pool-requires-clause-formula
+extend_by_pool-requires-clause-formula c =
     let g = c.args.facts.now in
     let table = c.args.table.now in
     let k = c.args.k in
     let s = c.args.scope.now in
     let e = listed_in g table k s in
     let f = c.args.cnf.now in
-    let before = before_named c.args.part Pool c.in-Pool.is g table k s f c.requires.formula in
-    let long = ap (λ (ls : List Launch). length ls) c.requires.launches in
-    let many : f.vars ≡ (guard_formula g table k e).vars = ap (λ (x : Formula). x.vars) before in
-    omega arith
+    before_named c.args.part Pool c.in-Pool.is g table k s f c.requires.formula
 
-pub extend_by_pool-requires-clause-vars : goal.extend_by_pool-requires-clause-vars
-extend_by_pool-requires-clause-vars c =
+pub extend_by_pool-requires-clause-overwritten : goal.extend_by_pool-requires-clause-overwritten
+extend_by_pool-requires-clause-overwritten c =
     let g = c.args.facts.now in
     let table = c.args.table.now in
     let k = c.args.k in
     let s = c.args.scope.now in
     let e = listed_in g table k s in
     let f = c.args.cnf.now in
-    let before = before_named c.args.part Pool c.in-Pool.is g table k s f c.requires.formula in
-    let is = pool_is g table k e c.args.launches.now c.requires.launches f before in
-    subst (λ (x : Formula). x.vars ≤ most_vars) (sym is) (vars_named c.args.part Pool c.in-Pool.is g table k s c.requires.within)
+    subst (λ p. KnowsOverwritten p c.args.overwritten e) c.in-Pool.is c.requires.overwritten
 
-pub extend_by_pool-requires-clause-clauses : goal.extend_by_pool-requires-clause-clauses
-extend_by_pool-requires-clause-clauses c =
+pub extend_by_pool-requires-clause-within : goal.extend_by_pool-requires-clause-within
+extend_by_pool-requires-clause-within c =
     let g = c.args.facts.now in
     let table = c.args.table.now in
     let k = c.args.k in
     let s = c.args.scope.now in
     let e = listed_in g table k s in
     let f = c.args.cnf.now in
-    let before = before_named c.args.part Pool c.in-Pool.is g table k s f c.requires.formula in
-    let is = pool_is g table k e c.args.launches.now c.requires.launches f before in
-    subst (λ (x : Formula). length x.clauses ≤ most_clauses) (sym is) (clauses_named c.args.part Pool c.in-Pool.is g table k s c.requires.within)
+    subst (λ p. IsTooLarge (with_part p g table k e) → ⊥) c.in-Pool.is c.requires.within
 
 pub returns-in-Pool : goal.returns-in-Pool
 returns-in-Pool c =
@@ -156,15 +149,23 @@ returns-in-Pool c =
     let s = c.args.scope.now in
     let e = listed_in g table k s in
     let f = c.args.cnf.now in
-    let before = before_named c.args.part Pool c.in-Pool.is g table k s f c.requires.formula in
-    let is = pool_is g table k e c.args.launches.now c.requires.launches f before in
-    on_ok_more _ _ c.extend_by_pool.result (λ new. after_named c.args.part Pool c.in-Pool.is g table k s c.extend_by_pool.new.cnf (new ∙ is)) c.extend_by_pool.ensures
+    on_ok_more _ _ c.extend_by_pool.result (λ new. after_named c.args.part Pool c.in-Pool.is g table k s c.extend_by_pool.new.cnf new) c.extend_by_pool.ensures
+
+pub before_stores-stores-requires-clause-few : goal.before_stores-stores-requires-clause-few
+before_stores-stores-requires-clause-few c =
+    let g = c.args.facts.now in
+    let table = c.args.table.now in
+    let k = c.args.k in
+    let e = listed_in g table k c.args.scope.now in
+    let within = subst (λ p. IsTooLarge (with_part p g table k e) → ⊥) c.in-Pins.is c.requires.within in
+    let most = within_vars (memory_formula g table k e) (λ t. within (memory_pins g table k e t)) in
+    omega arith
 
 pub before_branch-branches-requires-clause-few : goal.before_branch-branches-requires-clause-few
 before_branch-branches-requires-clause-few c =
     let e = listed_in c.args.facts.now c.args.table.now c.args.k c.args.scope.now in
     let within = subst (λ p. IsTooLarge (with_part p c.args.facts.now c.args.table.now c.args.k e) → ⊥) c.in-Pins.is c.requires.within in
-    within_vars (memory_formula c.args.facts.now c.args.table.now c.args.k e) (λ t. within (memory_less c.args.facts.now c.args.table.now c.args.k e t))
+    within_vars (memory_formula c.args.facts.now c.args.table.now c.args.k e) (λ t. within (memory_pins c.args.facts.now c.args.table.now c.args.k e t))
 
 pub extend_by_pins-requires-clause-launches : goal.extend_by_pins-requires-clause-launches
 extend_by_pins-requires-clause-launches c =
@@ -220,7 +221,7 @@ extend_by_pins-requires-clause-vars c =
     let before = before_named c.args.part Pins c.in-Pins.is g table k s f c.requires.formula in
     let over : c.args.overwritten ≡ before_overwritten e = subst (λ p. KnowsOverwritten p c.args.overwritten e) c.in-Pins.is c.requires.overwritten in
     let branches = c.before_branch-branches.ensures in
-    let is = pins_is g table k e c.args.launches.now c.requires.launches f c.args.overwritten c.before_branch-branches.result over branches before in
+    let is = pins_is g table k e c.args.launches.now c.requires.launches f c.args.overwritten c.before_branch-branches.result c.before_stores-stores.result over branches c.before_stores-stores.ensures before in
     subst (λ (x : Formula). x.vars ≤ most_vars) (sym is) (vars_named c.args.part Pins c.in-Pins.is g table k s c.requires.within)
 
 pub extend_by_pins-requires-clause-clauses : goal.extend_by_pins-requires-clause-clauses
@@ -234,7 +235,7 @@ extend_by_pins-requires-clause-clauses c =
     let before = before_named c.args.part Pins c.in-Pins.is g table k s f c.requires.formula in
     let over : c.args.overwritten ≡ before_overwritten e = subst (λ p. KnowsOverwritten p c.args.overwritten e) c.in-Pins.is c.requires.overwritten in
     let branches = c.before_branch-branches.ensures in
-    let is = pins_is g table k e c.args.launches.now c.requires.launches f c.args.overwritten c.before_branch-branches.result over branches before in
+    let is = pins_is g table k e c.args.launches.now c.requires.launches f c.args.overwritten c.before_branch-branches.result c.before_stores-stores.result over branches c.before_stores-stores.ensures before in
     subst (λ (x : Formula). length x.clauses ≤ most_clauses) (sym is) (clauses_named c.args.part Pins c.in-Pins.is g table k s c.requires.within)
 
 pub returns-in-Pins : goal.returns-in-Pins
@@ -248,5 +249,81 @@ returns-in-Pins c =
     let before = before_named c.args.part Pins c.in-Pins.is g table k s f c.requires.formula in
     let over : c.args.overwritten ≡ before_overwritten e = subst (λ p. KnowsOverwritten p c.args.overwritten e) c.in-Pins.is c.requires.overwritten in
     let branches = c.before_branch-branches.ensures in
-    let is = pins_is g table k e c.args.launches.now c.requires.launches f c.args.overwritten c.before_branch-branches.result over branches before in
+    let is = pins_is g table k e c.args.launches.now c.requires.launches f c.args.overwritten c.before_branch-branches.result c.before_stores-stores.result over branches c.before_stores-stores.ensures before in
     on_ok_more _ _ c.extend_by_pins.result (λ new. after_named c.args.part Pins c.in-Pins.is g table k s c.extend_by_pins.new.cnf (new ∙ is)) c.extend_by_pins.ensures
+
+pub extend_by_pins-requires-clause-before_stores : goal.extend_by_pins-requires-clause-before_stores
+extend_by_pins-requires-clause-before_stores c =
+    let g = c.args.facts.now in
+    let table = c.args.table.now in
+    let k = c.args.k in
+    let s = c.args.scope.now in
+    let e = listed_in g table k s in
+    let f = c.args.cnf.now in
+    let stores = c.before_stores-stores.ensures in
+    let long = ap (λ (ls : List Launch). length ls) c.requires.launches in
+    omega arith
+
+pub extend_by_pins-requires-clause-stores : goal.extend_by_pins-requires-clause-stores
+extend_by_pins-requires-clause-stores c =
+    let g = c.args.facts.now in
+    let table = c.args.table.now in
+    let k = c.args.k in
+    let s = c.args.scope.now in
+    let e = listed_in g table k s in
+    let f = c.args.cnf.now in
+    let before = before_named c.args.part Pins c.in-Pins.is g table k s f c.requires.formula in
+    let stores = c.before_stores-stores.ensures in
+    let within = come_within g table k e in
+    let many : f.vars ≡ (pool_formula g table k e).vars = ap (λ (x : Formula). x.vars) before in
+    omega arith
+
+pub extend_by_capacity-requires-clause-exist : goal.extend_by_capacity-requires-clause-exist
+extend_by_capacity-requires-clause-exist c =
+    let g = c.args.facts.now in
+    let table = c.args.table.now in
+    let k = c.args.k in
+    let s = c.args.scope.now in
+    let e = listed_in g table k s in
+    let f = c.args.cnf.now in
+    let before = before_named c.args.part Capacity c.in-Capacity.is g table k s f c.requires.formula in
+    let long = ap (λ (ls : List Launch). length ls) c.requires.launches in
+    let many : f.vars ≡ (pins_formula g table k e).vars = ap (λ (x : Formula). x.vars) before in
+    let within = launches_within g table k e in
+    omega (arith, long, many, within)
+
+pub extend_by_capacity-requires-clause-vars : goal.extend_by_capacity-requires-clause-vars
+extend_by_capacity-requires-clause-vars c =
+    let g = c.args.facts.now in
+    let table = c.args.table.now in
+    let k = c.args.k in
+    let s = c.args.scope.now in
+    let e = listed_in g table k s in
+    let f = c.args.cnf.now in
+    let before = before_named c.args.part Capacity c.in-Capacity.is g table k s f c.requires.formula in
+    let is = capacity_is g table k e c.args.launches.now c.requires.launches f c.in_ok-capacity-in-Capacity.capacity c.in_ok-capacity-in-Capacity.ensures.value before in
+    subst (λ (x : Formula). x.vars ≤ most_vars) (sym is) (vars_named c.args.part Capacity c.in-Capacity.is g table k s c.requires.within)
+
+pub extend_by_capacity-requires-clause-clauses : goal.extend_by_capacity-requires-clause-clauses
+extend_by_capacity-requires-clause-clauses c =
+    let g = c.args.facts.now in
+    let table = c.args.table.now in
+    let k = c.args.k in
+    let s = c.args.scope.now in
+    let e = listed_in g table k s in
+    let f = c.args.cnf.now in
+    let before = before_named c.args.part Capacity c.in-Capacity.is g table k s f c.requires.formula in
+    let is = capacity_is g table k e c.args.launches.now c.requires.launches f c.in_ok-capacity-in-Capacity.capacity c.in_ok-capacity-in-Capacity.ensures.value before in
+    subst (λ (x : Formula). length x.clauses ≤ most_clauses) (sym is) (clauses_named c.args.part Capacity c.in-Capacity.is g table k s c.requires.within)
+
+pub returns-in_ok-capacity-in-Capacity : goal.returns-in_ok-capacity-in-Capacity
+returns-in_ok-capacity-in-Capacity c =
+    let g = c.args.facts.now in
+    let table = c.args.table.now in
+    let k = c.args.k in
+    let s = c.args.scope.now in
+    let e = listed_in g table k s in
+    let f = c.args.cnf.now in
+    let before = before_named c.args.part Capacity c.in-Capacity.is g table k s f c.requires.formula in
+    let is = capacity_is g table k e c.args.launches.now c.requires.launches f c.in_ok-capacity-in-Capacity.capacity c.in_ok-capacity-in-Capacity.ensures.value before in
+    on_ok_more _ _ c.extend_by_capacity.result (λ new. after_named c.args.part Capacity c.in-Capacity.is g table k s c.extend_by_capacity.new.cnf (new ∙ is)) c.extend_by_capacity.ensures

@@ -3,7 +3,8 @@ use Rattle.std.specs.List.{sum_by, range_with_len}
 use Rattle.schedule_meaning.specs.Launches.{is_set}
 use Rattle.cycle_encoding.specs.Counts.{row_count, one_if}
 use Rattle.cycle_encoding.specs.Counts.{row_destinations}
+use Rattle.cycle_encoding.specs.CycleFormula.{allocation_in}
 use Rattle.order_encoding.proofs.pin_counts.goes_count.Given as goal
 
 abbrev pub invariant-loop-row : goal.invariant-loop-row
-invariant-loop-row l = record { is : l.count ≡ sum_by (λ row. row_count l.facts l.table l.k l.scope row * sum_by (λ to. one_if (is_set l.set to)) (row_destinations l.facts row)) (range_with_len 0 l.row); small : l.count ≤ l.row * 200 }
+invariant-loop-row l = record { is : l.count ≡ sum_by (λ row. row_count l.facts l.table l.k l.scope row * sum_by (λ to. one_if (is_set l.set to)) (row_destinations l.facts (allocation_in l.scope) row)) (range_with_len 0 l.row); small : l.count ≤ l.row * 200 }

@@ -2,7 +2,8 @@ use Rattle.std.proofs.Common.{◌≡◌, ◌≤◌, ◌*◌, length}
 use Rattle.std.specs.List.{sum_by, range_with_len}
 use Rattle.cycle_encoding.specs.Counts.{row_destinations}
 use Rattle.order_encoding.specs.OrderCounts.{row_stores}
+use Rattle.cycle_encoding.specs.CycleFormula.{allocation_in}
 use Rattle.order_encoding.proofs.sizes.store_count.Given as goal
 
 abbrev pub invariant-loop-row : goal.invariant-loop-row
-invariant-loop-row l = record { is : l.count ≡ sum_by (λ row. row_stores l.facts l.table l.k l.scope l.cycle row * length (row_destinations l.facts row)) (range_with_len 0 l.row); small : l.count ≤ l.row * 256 }
+invariant-loop-row l = record { is : l.count ≡ sum_by (λ row. row_stores l.facts l.table l.k l.scope l.cycle row * length (row_destinations l.facts (allocation_in l.scope) row)) (range_with_len 0 l.row); small : l.count ≤ l.row * 256 }

@@ -1,5 +1,5 @@
 use Rattle.cycle_encoding.specs.CycleFormula.{cycle_formula, listed_in}
-use Rattle.order_encoding.proofs.Composed.{cycle_less, guard_less, memory_less, pool_less}
+use Rattle.order_encoding.proofs.Composed.{cycle_less, guard_less, memory_less, pins_less, pool_less}
 use Rattle.order_encoding.proofs.Limits.{within_clauses, within_vars}
 use Rattle.order_encoding.proofs.whole.build_whole.Goals as goal
 
@@ -42,3 +42,11 @@ extend-requires-3-clause-within c =
     let k = c.args.k in
     let e = listed_in g table k c.args.scope.now in
     λ t. c.requires.within (pool_less g table k e t)
+
+pub extend-requires-4-clause-within : goal.extend-requires-4-clause-within
+extend-requires-4-clause-within c =
+    let g = c.args.facts.now in
+    let table = c.args.table.now in
+    let k = c.args.k in
+    let e = listed_in g table k c.args.scope.now in
+    λ t. c.requires.within (pins_less g table k e t)

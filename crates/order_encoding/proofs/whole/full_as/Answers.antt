@@ -2,7 +2,7 @@ use Rattle.std.proofs.Common.{◌≡◌, ◌∙◌, ℕ, ap, refl, subst, sym}
 use Rattle.std.specs.Prelude.{Result, Ok, Err, IfOk, OnOk}
 use Rattle.cnf_core.specs.Formula.{Formula}
 use Rattle.machine_table.specs.declared.tables.Table.{Table}
-use Rattle.cycle_encoding.specs.Encodings.{AreListed}
+use Rattle.cycle_encoding.specs.Encodings.{AreListed, allocation_of}
 use Rattle.cycle_encoding.specs.declared.plans.EncodeFault.{EncodeFault}
 use Rattle.cycle_encoding.specs.declared.plans.EncodeFault.TheVariants.{Size, Memory}
 use Rattle.graph_meaning.specs.declared.graphs.LaunchGraph.{LaunchGraph}
@@ -81,7 +81,7 @@ returns-clause-shown c =
     let l = listed_in g table k c.in_ok-scope.scope in
     let own = own_list c.each_encoding_has_one_list.ensures c.args.encoding c.args.graph.now c.in_ok-facts.facts c.args.table.now c.args.k c.in_ok-scope.scope c.in_ok-facts.ensures c.in_ok-scope.ensures c.requires.cycles in
     if_ok_both _ _ _ c.build_formula.result
-    (λ r formula plan. shows_in g table k l r.cnf r.plan.launches
+    (λ r formula plan. shows_in g table (allocation_of c.args.encoding) k l r.cnf r.plan.launches
     (formula ∙ ap (λ (x : LaunchGraph). whole_formula x table k (listed_in x table k c.in_ok-scope.scope)) c.in_ok-facts.ensures)
     (ap (λ (p : Plan). p.launches) plan ∙ ap (λ (x : LaunchGraph). (listed_in x table k c.in_ok-scope.scope).launches) c.in_ok-facts.ensures)
     (λ v h. c.each_encoding_says_fits.ensures.shown c.args.encoding g table k l v c.requires.table c.requires.graph own h))
@@ -95,7 +95,7 @@ returns-clause-some c =
     let l = listed_in g table k c.in_ok-scope.scope in
     let own = own_list c.each_encoding_has_one_list.ensures c.args.encoding c.args.graph.now c.in_ok-facts.facts c.args.table.now c.args.k c.in_ok-scope.scope c.in_ok-facts.ensures c.in_ok-scope.ensures c.requires.cycles in
     if_ok_both _ _ _ c.build_formula.result
-    (λ r formula plan. some_in g table k l r.cnf r.plan.launches
+    (λ r formula plan. some_in g table (allocation_of c.args.encoding) k l r.cnf r.plan.launches
     (formula ∙ ap (λ (x : LaunchGraph). whole_formula x table k (listed_in x table k c.in_ok-scope.scope)) c.in_ok-facts.ensures)
     (ap (λ (p : Plan). p.launches) plan ∙ ap (λ (x : LaunchGraph). (listed_in x table k c.in_ok-scope.scope).launches) c.in_ok-facts.ensures)
     (λ ls fit. c.each_encoding_says_fits.ensures.some c.args.encoding g table k l ls c.requires.table c.requires.graph own fit))

@@ -1,7 +1,6 @@
 use Rattle.std.proofs.Common.{◌≡◌, ◌≢◌, ◌∙◌, ◌++◌, List, length, map, ap, subst, sym}
 use Rattle.std.proofs.lemmas.List.{length-map}
 use Rattle.std.proofs.lemmas.Slice.Zip.{AllZip-long}
-use Rattle.cycle_encoding.specs.declared.encodings.Encoding.TheVariants.{Pinned}
 use Rattle.denali_run.specs.ClaimedResults.{answer_text}
 use Rattle.denali_run.specs.Right.{AreRightResults, Right}
 use Rattle.denali_run.specs.TextAnswers.{greatest_status}
@@ -19,7 +18,7 @@ use Rattle.proc_link.proofs.proc_texts.solve_proc.Goals as goal
 pub answer_text-requires : goal.answer_text-requires
 answer_text-requires c =
     ap (λ (rs : List Answered). length rs) c.deref.ensures.value
-    ∙ AllZip-long (λ goal answered. Right Pinned (input_view c.in_ok-input.input) goal c.args.settings.now answered)
+    ∙ AllZip-long (λ goal answered. Right (input_view c.in_ok-input.input) goal c.args.settings.now answered)
     (map goal_view c.in_ok-input.input.goals) c.in_ok-results.results.items c.in_ok-results.ensures.right
     ∙ length-map c.in_ok-input.input.goals goal_view
 
@@ -27,8 +26,8 @@ pub put_behind-requires-clause-right : goal.put_behind-requires-clause-right
 put_behind-requires-clause-right c = (
   c.args.settings.now,
   c.requires.settings,
-  subst (AreRightResults Pinned (input_of_proc (proc_view c.args.proc.now)) c.args.settings.now) (sym c.deref-2.ensures.value)
-      (subst (λ (i : InputTree). AreRightResults Pinned i c.args.settings.now c.in_ok-results.results.items) c.in_ok-input.ensures.input c.in_ok-results.ensures.right),
+  subst (AreRightResults (input_of_proc (proc_view c.args.proc.now)) c.args.settings.now) (sym c.deref-2.ensures.value)
+      (subst (λ (i : InputTree). AreRightResults i c.args.settings.now c.in_ok-results.results.items) c.in_ok-input.ensures.input c.in_ok-results.ensures.right),
 )
 
 pub returns : goal.returns
@@ -36,11 +35,11 @@ returns c =
     let p = proc_view c.args.proc.now in
     let results = c.in_ok-results.results.items in
     let same = c.in_ok-input.ensures.input in
-    let right : AreRightResults Pinned (input_of_proc p) c.args.settings.now results =
-    subst (λ (i : InputTree). AreRightResults Pinned i c.args.settings.now results) same c.in_ok-results.ensures.right in
+    let right : AreRightResults (input_of_proc p) c.args.settings.now results =
+    subst (λ (i : InputTree). AreRightResults i c.args.settings.now results) same c.in_ok-results.ensures.right in
     let is : IsInput (input_of_proc p) = subst IsInput same c.in_ok-input.ensures.well_formed in
-    let bytes : c.in_ok-answer.answer.bytes.items ≡ answer_text Pinned c.args.settings.now.library (input_of_proc p) results =
-    c.in_ok-answer.ensures.bytes ∙ (λ j. answer_text Pinned c.args.settings.now.library (same j) (c.deref.ensures.value j)) in
+    let bytes : c.in_ok-answer.answer.bytes.items ≡ answer_text c.args.settings.now (input_of_proc p) results =
+    c.in_ok-answer.ensures.bytes ∙ (λ j. answer_text c.args.settings.now (same j) (c.deref.ensures.value j)) in
     let ends : c.in_ok-answer.answer.status ≡ greatest_status results = c.in_ok-answer.ensures.status ∙ ap greatest_status c.deref.ensures.value in
     let behind : AppendsBehind p results c.in_ok-answer.answer.bytes.items c.put_behind.new.text.items =
     subst (λ (rs : List Answered). AppendsBehind p rs c.in_ok-answer.answer.bytes.items c.put_behind.new.text.items) c.deref-2.ensures.value c.in_ok-put_behind.ensures in

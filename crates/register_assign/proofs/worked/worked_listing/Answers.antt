@@ -14,4 +14,6 @@ returns c = record {
   step_places = refl;
   exchange_words = refl;
   exchange_places = refl;
+  chain_words = refl;
+  chain_places = refl;
 }

@@ -8,7 +8,7 @@ use Rattle.cycle_encoding.specs.Encodings.{AreListed, OnLists}
 use Rattle.cycle_encoding.specs.CycleFormula.{before_overwritten, cycle_formula}
 use Rattle.cycle_encoding.specs.Plans.{Plan}
 use Rattle.cycle_encoding.specs.declared.encodings.Encoding.{Encoding}
-use Rattle.order_encoding.specs.WholeFormula.{guard_formula, memory_formula, pool_formula}
+use Rattle.order_encoding.specs.WholeFormula.{guard_formula, memory_formula, pins_formula, pool_formula}
 use Rattle.schedule_cases.proofs.formulas.by_parts.Goals as goal
 
 -- what is kept beside a formula over these lists
@@ -144,3 +144,9 @@ add_pins-requires-clause-overwritten c =
     (same_plan c.args.encoding c.args.graph.now c.args.table.now c.args.k c.in_ok-cycles.cycles.plan c.in_ok-pool.pool.plan
     (c.in_ok-pool.ensures.plan ∙ c.in_ok-guard.ensures.plan ∙ c.in_ok-memory.ensures.plan)
     (record { some = c.in_ok-cycles.ensures.listed; is = c.in_ok-cycles.ensures.plan }))
+
+pub add_capacity-requires-clause-formula : goal.add_capacity-requires-clause-formula
+add_capacity-requires-clause-formula c =
+    by_plan c.args.graph.now c.args.table.now c.in_ok-pins.pins.plan c.in_ok-pool.pool.plan c.in_ok-pins.ensures.plan
+    (λ n l. c.in_ok-pins.pins.cnf ≡ pins_formula c.args.graph.now c.args.table.now n l)
+    c.in_ok-pins.ensures.formula

@@ -10,6 +10,6 @@ returns-then-has_input c =
 pub returns : goal.returns
 returns c =
     use_given c.args.graph.now c.args.table.now c.args.list.now c.args.launch c.args.wanted c.is_given.result
-    (λ f. false≢true (sym c.if-is_free.false ∙ c.is_free.ensures.1 f))
+    (λ f. false≢true (sym c.if-is_free.false ∙ c.is_free.ensures.fact.1 f))
     (λ i. false≢true (sym c.if-has_input.false ∙ c.has_input.ensures.1 i))
     c.is_given.ensures

@@ -1,5 +1,5 @@
 -- Each is decided by computing.
-use Rattle.schedule_meaning.proofs.WorkedFits.{sum_fits, too_early, given_twice, copy_fits, free_copy_fits, operand_of_the_store_too_early, load_before_branch, store_in_another_slot, row_past_the_branch, store_too_late, target_not_reached, memory_not_reached, load_after_the_store, two_stores_at_once, no_branch, two_branches, store_before_the_branch, pool_too_small, step_fits, exchange_fits, overwritten_before_read}
+use Rattle.schedule_meaning.proofs.WorkedFits.{sum_fits, too_early, given_twice, copy_fits, free_copy_fits, operand_of_the_store_too_early, load_before_branch, store_in_another_slot, row_past_the_branch, store_too_late, target_not_reached, memory_not_reached, load_after_the_store, two_stores_at_once, no_branch, two_branches, store_before_the_branch, pool_too_small, step_fits, exchange_fits, overwritten_before_read, held_while_read, free_when_read}
 use Rattle.machine_table.specs.Tables.{ev6}
 use Rattle.schedule_meaning.proofs.TwoSlots.{two_slots_is_table}
 use Rattle.schedule_meaning.proofs.worked.worked_schedules.Goals as goal
@@ -29,4 +29,6 @@ returns c = record {
   step_fits = step_fits;
   exchange_fits = exchange_fits;
   overwritten_before_read = overwritten_before_read;
+  held_while_read = held_while_read;
+  free_when_read = free_when_read;
 }

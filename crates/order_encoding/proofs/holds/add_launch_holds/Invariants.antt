@@ -1,0 +1,10 @@
+use Rattle.std.proofs.Common.{◌≡◌, ◌+◌, ◌-◌, ◌≤◌, ◌∷◌, map}
+use Rattle.std.specs.List.{range_with_len}
+use Rattle.cycle_encoding.specs.Shapes.{numbered, vars_of}
+use Rattle.cycle_encoding.specs.Steps.{of_thing, with_clauses}
+use Rattle.order_encoding.specs.LiveVariables.{all_holds, all_needs, pooled_classes}
+use Rattle.order_encoding.specs.LiveFamilies.{holds_while, is_hold_at}
+use Rattle.order_encoding.proofs.holds.add_launch_holds.Given as goal
+
+abbrev pub invariant-loop-step : goal.invariant-loop-step
+invariant-loop-step l = record { is : l.cnf ≡ with_clauses l.fn.cnf (of_thing l.var (vars_of (is_hold_at l.launch.slot l.launch.cycle l.launch.cycle) (numbered l.first (all_holds l.table l.needs.cycles)) ∷ map (holds_while l.facts (numbered l.needs.first (all_needs l.needs.cycles (pooled_classes l.facts (numbered 0 l.launches)))) (numbered l.first (all_holds l.table l.needs.cycles)) l.launch) (range_with_len (l.launch.cycle + 1) (l.step - 1)))); within : l.step - 1 ≤ l.needs.cycles - (l.launch.cycle + 1) }

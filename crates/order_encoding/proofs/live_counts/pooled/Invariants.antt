@@ -1,0 +1,8 @@
+use Rattle.std.proofs.Common.{◌≡◌, map}
+use Rattle.std.specs.List.{range_with_len}
+use Rattle.graph_meaning.specs.WellFormed.{next_class}
+use Rattle.order_encoding.proofs.LiveTallies.{pooled_below}
+use Rattle.order_encoding.proofs.live_counts.pooled.Given as goal
+
+abbrev pub invariant-loop-row : goal.invariant-loop-row
+invariant-loop-row l = l.marks.items ≡ pooled_below l.facts l.table l.k l.scope (next_class l.facts.rows) l.row

@@ -1,0 +1,10 @@
+use Rattle.std.proofs.Common.{◌≡◌, take}
+use Rattle.cycle_encoding.specs.Variables.{all_overwritten}
+use Rattle.cycle_encoding.specs.Shapes.{numbered}
+use Rattle.cycle_encoding.specs.Steps.{with_clauses}
+use Rattle.order_encoding.specs.LiveVariables.{all_needs, pooled_classes}
+use Rattle.order_encoding.specs.LiveFamilies.{target_groups}
+use Rattle.order_encoding.proofs.needs.add_last_needs.Given as goal
+
+abbrev pub invariant-loop-set : goal.invariant-loop-set
+invariant-loop-set l = l.cnf ≡ with_clauses l.initial.cnf (target_groups l.facts l.needs.cycles (numbered 0 l.launches) (numbered l.needs.first (all_needs l.needs.cycles (pooled_classes l.facts (numbered 0 l.launches)))) (numbered l.over.first (all_overwritten l.facts l.over.cycles)) (take l.set-index l.facts.sets))

@@ -1,0 +1,10 @@
+use Rattle.std.proofs.Common.{◌≡◌, take}
+use Rattle.cycle_encoding.specs.Shapes.{numbered}
+use Rattle.cycle_encoding.specs.Steps.{of_thing, with_clauses}
+use Rattle.schedule_meaning.specs.Launches.{operands_at}
+use Rattle.order_encoding.specs.LiveVariables.{all_needs, pooled_classes}
+use Rattle.order_encoding.specs.LiveFamilies.{needs_of}
+use Rattle.order_encoding.proofs.needs.add_launch_needs.Given as goal
+
+abbrev pub invariant-loop-at : goal.invariant-loop-at
+invariant-loop-at l = l.cnf ≡ with_clauses l.initial.cnf (of_thing l.var (needs_of l.facts (numbered 0 l.launches) (numbered l.needs.first (all_needs l.needs.cycles (pooled_classes l.facts (numbered 0 l.launches)))) l.launch.cycle (take l.at (operands_at l.facts l.launch.row))))

@@ -1,0 +1,38 @@
+use Rattle.std.proofs.Common.{◌≡◌, ◌<◌, ◌+◌, ◌^◌, ◌∙◌, List, Option, Some, ap, sym, subst, refl}
+use Rattle.std.specs.Prelude.{length, slice_get}
+use Rattle.graph_meaning.specs.declared.graphs.LaunchGraph.{LaunchGraph}
+use Rattle.schedule_meaning.specs.Launches.{operands_at}
+use Rattle.schedule_meaning.specs.declared.schedules.Operand.{Operand}
+use Rattle.cycle_encoding.specs.Facts.{one_or_none}
+use Rattle.cycle_encoding.specs.Shapes.{numbered}
+use Rattle.cycle_encoding.specs.Steps.{of_thing, with_clauses}
+use Rattle.cycle_encoding.proofs.Adding.{with-none}
+use Rattle.order_encoding.specs.LiveVariables.{all_needs, pooled_classes}
+use Rattle.order_encoding.specs.LiveFamilies.{needs_of}
+use Rattle.order_encoding.proofs.AddSteps.{then_is}
+use Rattle.order_encoding.proofs.needs.add_need_at.Goals as goal
+
+pub add_need_of-requires-clause-room : goal.add_need_of-requires-clause-room
+add_need_of-requires-clause-room c =
+    let g = c.args.facts.now in
+    let xs = numbered 0 c.args.launches.now in
+    let ns = numbered c.args.needs.now.first (all_needs c.args.needs.now.cycles (pooled_classes g xs)) in
+    let at = c.in-Some.ensures ∙ ap (λ (g : LaunchGraph). slice_get (operands_at g c.args.launch.row) c.args.at) c.graph.ensures in
+    subst (λ (o : Option Operand). length c.args.cnf.now.clauses + length (needs_of g xs ns c.args.launch.cycle (one_or_none o)) < 2 ^ 30) (sym at) c.requires.room
+
+pub returns-in-Some : goal.returns-in-Some
+returns-in-Some c =
+    let g = c.args.facts.now in
+    let xs = numbered 0 c.args.launches.now in
+    let ns = numbered c.args.needs.now.first (all_needs c.args.needs.now.cycles (pooled_classes g xs)) in
+    let at = c.in-Some.ensures ∙ ap (λ (g : LaunchGraph). slice_get (operands_at g c.args.launch.row) c.args.at) c.graph.ensures in
+    then_is c.add_need_of.result c.args.cnf.now c.add_need_of.new.cnf (of_thing c.args.var (needs_of g xs ns c.args.launch.cycle (one_or_none (Some c.in-Some.operand)))) (of_thing c.args.var (needs_of g xs ns c.args.launch.cycle (one_or_none (slice_get (operands_at g c.args.launch.row) c.args.at))))
+    (ap (λ (o : Option Operand). of_thing c.args.var (needs_of g xs ns c.args.launch.cycle (one_or_none o))) at) c.add_need_of.ensures
+
+pub returns-in-None : goal.returns-in-None
+returns-in-None c =
+    let g = c.args.facts.now in
+    let xs = numbered 0 c.args.launches.now in
+    let ns = numbered c.args.needs.now.first (all_needs c.args.needs.now.cycles (pooled_classes g xs)) in
+    let at = c.in-None.ensures ∙ ap (λ (g : LaunchGraph). slice_get (operands_at g c.args.launch.row) c.args.at) c.graph.ensures in
+    with-none c.args.cnf.now ∙ ap (λ (o : Option Operand). with_clauses c.args.cnf.now (of_thing c.args.var (needs_of g xs ns c.args.launch.cycle (one_or_none o)))) at

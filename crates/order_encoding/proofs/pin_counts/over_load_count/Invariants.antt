@@ -1,0 +1,11 @@
+use Rattle.std.proofs.Common.{◌≡◌, ◌≤◌, ◌*◌, ◌&&◌}
+use Rattle.std.specs.List.{sum_by, range_with_len}
+use Rattle.schedule_meaning.specs.Launches.{is_load}
+use Rattle.cycle_encoding.specs.Counts.{row_count, row_is, one_if}
+use Rattle.cycle_encoding.specs.Counts.{row_destinations}
+use Rattle.order_encoding.specs.OrderCounts.{overwrites_at}
+use Rattle.cycle_encoding.specs.CycleFormula.{allocation_in}
+use Rattle.order_encoding.proofs.pin_counts.over_load_count.Given as goal
+
+abbrev pub invariant-loop-row : goal.invariant-loop-row
+invariant-loop-row l = record { is : l.count ≡ sum_by (λ row. row_count l.facts l.table l.k l.scope row * sum_by (λ to. one_if (row_is l.facts is_load row && overwrites_at l.facts to)) (row_destinations l.facts (allocation_in l.scope) row)) (range_with_len 0 l.row); small : l.count ≤ l.row * 6200 }

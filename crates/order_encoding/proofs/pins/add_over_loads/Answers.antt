@@ -1,0 +1,12 @@
+use Rattle.std.proofs.Common.{◌+◌, refl, arith}
+use Rattle.std.specs.List.{range_with_len}
+use Rattle.cycle_encoding.specs.Shapes.{numbered}
+use Rattle.cycle_encoding.proofs.Adding.{implied_step, implied_room}
+use Rattle.order_encoding.specs.PinFamilies.{loads_alone}
+use Rattle.order_encoding.proofs.pins.add_over_loads.Goals as goal
+
+pub add_over_load-requires-clause-room : goal.add_over_load-requires-clause-room
+add_over_load-requires-clause-room c = implied_room (loads_alone c.args.facts.now (numbered c.args.first (range_with_len 0 c.args.k))) 0 c.args.launches.now c.loop-index.index _ c.args.cnf.now c.loop-index.cnf c.loop-index-test.true c.loop-index.invariant c.requires.room
+
+pub loop-index-preserved : goal.loop-index-preserved
+loop-index-preserved c = implied_step (loads_alone c.args.facts.now (numbered c.args.first (range_with_len 0 c.args.k))) 0 c.args.launches.now c.loop-index.index _ c.args.cnf.now c.loop-index.cnf c.loop-index-test.true c.loop-index.invariant (c.loop-index.index + 1) c.add_over_load.new.cnf _ (omega arith) refl c.in_ok-add_over_load.ensures

@@ -1,0 +1,9 @@
+use Rattle.std.proofs.Common.{◌≡◌, take}
+use Rattle.std.specs.List.{range_with_len}
+use Rattle.cycle_encoding.specs.Shapes.{numbered, implied}
+use Rattle.cycle_encoding.specs.Steps.{with_clauses}
+use Rattle.order_encoding.specs.PinFamilies.{loads_alone}
+use Rattle.order_encoding.proofs.pins.add_over_loads.Given as goal
+
+abbrev pub invariant-loop-index : goal.invariant-loop-index
+invariant-loop-index l = l.cnf ≡ with_clauses l.initial.cnf (implied (numbered 0 (take l.index l.launches)) (loads_alone l.facts (numbered l.first (range_with_len 0 l.k))))

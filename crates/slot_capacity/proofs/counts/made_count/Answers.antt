@@ -1,0 +1,25 @@
+use Rattle.std.proofs.Common.{◌≤◌, ◌+◌, ◌*◌, ◌∙◌, ℕ, length, ap, arith}
+use Rattle.std.proofs.lemmas.Nat.{mul-le}
+use Rattle.cycle_encoding.specs.Counts.{row_destinations}
+use Rattle.cycle_encoding.specs.CycleFormula.{allocation_in}
+use Rattle.cycle_encoding.proofs.RowSums.{row_more}
+use Rattle.slot_capacity.specs.CapacityCounts.{row_made}
+use Rattle.slot_capacity.proofs.counts.made_count.Goals as goal
+
+pub loop-row-preserved : goal.loop-row-preserved
+loop-row-preserved c =
+    let g = c.args.facts.now in
+    let n = c.loop-row.row in
+    let A : ℕ → ℕ = λ row. row_made g c.args.table.now c.args.k c.args.scope.now c.args.counted.now row in
+    let B : ℕ → ℕ = λ row. length (row_destinations g (allocation_in c.args.scope.now) row) in
+    let small : (old x : ℕ) → old ≤ n * 6400 → x ≤ 6400 → old + x ≤ (n + 1) * 6400 = λ old x p q. omega arith in
+    record {
+      is =
+          row_more A B n c.loop-row.count c.row_made.result c.destination_count.result c.loop-row.invariant.is
+          c.row_made.ensures.value
+          (c.destination_count.ensures.value ∙ ap (λ x. length (row_destinations g x n)) c.allocation.ensures);
+      small =
+          small c.loop-row.count (c.row_made.result * c.destination_count.result) c.loop-row.invariant.small
+          (mul-le c.row_made.result c.destination_count.result 200 32 c.row_made.ensures.few
+          c.destination_count.ensures.few);
+    }

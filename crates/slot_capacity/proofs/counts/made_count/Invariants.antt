@@ -1,0 +1,16 @@
+use Rattle.std.proofs.Common.{◌≡◌, ◌≤◌, ◌*◌, length}
+use Rattle.std.specs.List.{sum_by, range_with_len}
+use Rattle.cycle_encoding.specs.Counts.{row_destinations}
+use Rattle.cycle_encoding.specs.CycleFormula.{allocation_in}
+use Rattle.slot_capacity.specs.CapacityCounts.{row_made}
+use Rattle.slot_capacity.proofs.counts.made_count.Given as goal
+
+abbrev pub invariant-loop-row : goal.invariant-loop-row
+invariant-loop-row l = record {
+  is : l.count
+      ≡ sum_by
+      (λ row. row_made l.facts l.table l.k l.scope l.counted row
+      * length (row_destinations l.facts (allocation_in l.scope) row))
+      (range_with_len 0 l.row);
+  small : l.count ≤ l.row * 6400;
+}

@@ -1,0 +1,10 @@
+pub mod Spans
+pub mod Makers
+pub mod MakersSteps
+pub mod Due
+pub mod Deadlines
+pub mod Limits
+pub mod LimitsSteps
+pub mod CapacityClauses
+pub mod CapacitySteps
+pub mod CapacityCounts

@@ -1,0 +1,135 @@
+// Which classes some launch has to give.
+ghost use Rattle.std.specs.Prelude.{◌≡◌, ◌==◌, ◌&&◌, ◌||◌, not, false, IfOk};
+ghost use Rattle.std.specs.Option.{option_map_or};
+ghost use Rattle.std.specs.List.{list_any};
+ghost use Rattle.graph_meaning.specs.Graphs.{is_memory_name};
+ghost use Rattle.graph_meaning.specs.WellFormed.{IsLaunchGraph};
+ghost use Rattle.slot_capacity.specs.Due as specs;
+ghost use Rattle.slot_capacity.specs.Makers as reads;
+ghost use Rattle.slot_capacity.specs.MakersSteps.{AreMakers};
+
+use crate::makers::{Makers, always_reads, has};
+use cycle_encoding::{Facts, next_class};
+use graph_meaning::SetClass;
+use items::NoMemory;
+use std::alloc::Global;
+
+/// Whether the class isn't there without a launch: it is neither that of the memory at entry nor an input's, nor the
+/// zero class.
+fn can_be_due(facts: &Facts, class: u32) -> bool
+    ensures { result ≡ specs.can_be_due facts.now class }
+{
+    class != facts.graph().entry && !facts.is_input(class) && !facts.is_zero(class)
+}
+
+/// Whether the set is a word target of the class.
+fn is_word_target(set: &SetClass, class: u32) -> bool
+    ensures { result ≡ (not (is_memory_name set.now.name) && (set.now.class == class)) }
+{
+    !set.is_memory() && set.class == class
+}
+
+/// Whether some word target has the class.
+fn has_word_target(facts: &Facts, class: u32) -> bool
+    ensures { result ≡ list_any (λ s. not (is_memory_name s.name) && (s.class == class)) facts.now.sets }
+{
+    facts
+        .graph()
+        .sets
+        .as_slice()
+        .iter()
+        .any(|set| is_word_target(set, class))
+}
+
+/// Whether the class is that of a target or of the guard.
+fn is_asked_for(facts: &Facts, class: u32) -> bool
+    ensures { result ≡ specs.is_asked_for facts.now class }
+{
+    has_word_target(facts, class)
+        || facts.graph().memory_target() == class
+        || is_guard(facts, class)
+}
+
+/// Whether the class is the guard's.
+pub fn is_guard(facts: &Facts, class: u32) -> bool
+    ensures { result ≡ option_map_or (λ guard. guard.class == class) facts.now.guard false }
+{
+    match facts.graph().guard {
+        Some(guard) => guard.class == class,
+        None => false,
+    }
+}
+
+/// Whether the class is due for itself.
+fn is_first_due(facts: &Facts, class: u32) -> bool
+    ensures { result ≡ (specs.can_be_due facts.now class && specs.is_asked_for facts.now class) }
+{
+    can_be_due(facts, class) && is_asked_for(facts, class)
+}
+
+/// The classes that are due for themselves, rising.
+fn first_due(alloc: Global, facts: &Facts) -> Result<Vec<u32>, NoMemory>
+    requires { IsLaunchGraph facts.now }
+    ensures { IfOk result (λ due. due.items ≡ specs.first_due facts.now) }
+{
+    let mut due = Vec::new(alloc);
+    for class in 0..next_class(facts.graph()) {
+        if is_first_due(facts, class) {
+            due.push(class)?;
+        }
+    }
+    Ok(due)
+}
+
+/// Whether the class is always read for one of these.
+fn is_always_read(facts: &Facts, makers: &Makers, due: &[u32], class: u32) -> bool
+    requires { AreMakers facts.now makers.now.spans.items makers.now.rows.items makers.now.always.items }
+    ensures { result ≡ list_any (λ d. reads.always_reads facts.now makers.now.spans.items d class) due.now }
+{
+    due.iter()
+        .any(|reader| always_reads(facts, makers, *reader, class))
+}
+
+/// Whether the class is one of these, or always read for one of them.
+fn is_more_due(facts: &Facts, makers: &Makers, due: &[u32], class: u32) -> bool
+    requires { AreMakers facts.now makers.now.spans.items makers.now.rows.items makers.now.always.items }
+    ensures { result ≡ (reads.has due.now class || (specs.can_be_due facts.now class
+        && list_any (λ d. reads.always_reads facts.now makers.now.spans.items d class) due.now)) }
+{
+    has(due, class) || can_be_due(facts, class) && is_always_read(facts, makers, due, class)
+}
+
+/// The due classes with what is always read for one of them.
+fn more_due(
+    alloc: Global,
+    facts: &Facts,
+    makers: &Makers,
+    due: &[u32],
+) -> Result<Vec<u32>, NoMemory>
+    requires { AreMakers facts.now makers.now.spans.items makers.now.rows.items makers.now.always.items }
+    ensures { IfOk result (λ more. more.items ≡ specs.more_due facts.now makers.now.spans.items due.now) }
+{
+    let mut more = Vec::new(alloc);
+    for class in 0..next_class(facts.graph()) {
+        if is_more_due(facts, makers, due, class) {
+            more.push(class)?;
+        }
+    }
+    Ok(more)
+}
+
+/// The due classes, rising. It goes on until a step finds no more.
+pub fn due_classes(alloc: Global, facts: &Facts, makers: &Makers) -> Result<Vec<u32>, NoMemory>
+    requires { AreMakers facts.now makers.now.spans.items makers.now.rows.items makers.now.always.items }
+    ensures { IfOk result (λ due. due.items ≡ specs.due_classes facts.now makers.now.spans.items) }
+{
+    let mut due = first_due(alloc, facts)?;
+    for _step in 0..next_class(facts.graph()) {
+        let more = more_due(alloc, facts, makers, &due)?;
+        if more.as_slice() == due.as_slice() {
+            return Ok(due);
+        }
+        due = more;
+    }
+    Ok(due)
+}

@@ -1,0 +1,353 @@
+// Which due classes are too many for the slots in which they can be launched.
+ghost use Rattle.std.specs.Prelude.{◌≡◌, ◌==◌, ◌≤◌, ◌++◌, ◌∷◌, [], if◌then◌else◌, All, length, IfOk, OnOk};
+ghost use Rattle.std.specs.List.{list_any};
+ghost use Rattle.schedule_meaning.specs.Limits.{most_cycles};
+ghost use Rattle.machine_table.specs.Tables.{IsTable};
+ghost use Rattle.graph_meaning.specs.WellFormed.{IsLaunchGraph};
+ghost use Rattle.cycle_encoding.specs.CycleFormula.{listed_in};
+ghost use Rattle.slot_capacity.specs.Limits as specs;
+ghost use Rattle.slot_capacity.specs.Limits.{capacity_in};
+ghost use Rattle.slot_capacity.specs.Spans.{spans_of};
+ghost use Rattle.slot_capacity.specs.MakersSteps.{AreMakers};
+ghost use Rattle.slot_capacity.specs.LimitsSteps as steps;
+ghost use Rattle.slot_capacity.specs.CapacityCounts.{IsSmall};
+ghost use Rattle.slot_capacity.specs.CapacitySteps.{AreApart};
+
+use crate::deadlines::{Deadline, deadlines};
+use crate::groups::{belongs, groups};
+use crate::makers::{Makers, find_makers};
+use cycle_encoding::{Facts, Scope};
+use items::{Items, NoMemory};
+use machine_table::Table;
+use schedule_meaning::Allocation;
+use std::alloc::Global;
+
+/// At most so many of these due classes can be launched up to a cycle.
+#[derive(Drop)]
+pub struct Limit {
+    pub due: Items<Deadline>,
+    pub cycle: u32,
+    pub most: u32,
+}
+
+/// What a formula says of due classes: the limits, and the deadlines of the classes that these speak of, rising by
+/// class.
+#[derive(Drop)]
+pub struct Capacity {
+    pub counted: Items<Deadline>,
+    pub limits: Items<Limit>,
+}
+
+/// Adds the deadline to the list, if it is to be kept.
+fn push_if(list: &mut Vec<Deadline>, keep: bool, one: Deadline) -> Result<(), NoMemory>
+    ensures { OnOk result (list.new.items ≡ list.old.items ++ (if keep then one ∷ [] else [])) }
+{
+    if keep {
+        list.push(one)?;
+    }
+    Ok(())
+}
+
+/// Those whose first cycle is up to this one.
+fn coming_by(alloc: Global, later: &[Deadline], cycle: u32) -> Result<Vec<Deadline>, NoMemory>
+    ensures { IfOk result (λ coming. coming.items ≡ specs.coming_by cycle later.now) }
+{
+    let mut coming = Vec::new(alloc);
+    for one in later {
+        push_if(&mut coming, one.first <= cycle, *one)?;
+    }
+    Ok(coming)
+}
+
+/// The limit from cycle e to this one, if more classes can come than there are slots.
+fn push_limit(
+    alloc: Global,
+    limits: &mut Vec<Limit>,
+    group: &[u32],
+    later: &[Deadline],
+    e: u32,
+    cycle: u32,
+) -> Result<(), NoMemory>
+    requires group { length group.now ≤ 8 }
+    requires from { e ≤ cycle }
+    requires to { cycle ≤ most_cycles }
+    ensures { OnOk result (limits.new.items ≡ limits.old.items ++ specs.limit_at group.now later.now e cycle) }
+{
+    let due = coming_by(alloc, later, cycle)?;
+    let most = group.len() as u32 * (cycle + 1 - e);
+    if due.len() <= most as usize {
+        return Ok(());
+    }
+    limits.push(Limit {
+        due: Items::from(due),
+        cycle,
+        most,
+    })?;
+    Ok(())
+}
+
+/// The greatest deadline.
+fn last_of(deadlines: &[Deadline]) -> u32
+    ensures { result ≡ specs.last_of deadlines.now }
+{
+    let mut last = 0;
+    for one in deadlines {
+        last = last.max(one.last);
+    }
+    last
+}
+
+/// The limits from a cycle on.
+fn push_later(
+    alloc: Global,
+    limits: &mut Vec<Limit>,
+    group: &[u32],
+    later: &[Deadline],
+    e: u32,
+) -> Result<(), NoMemory>
+    requires group { length group.now ≤ 8 }
+    requires early { All (λ x. x.last ≤ most_cycles) later.now }
+    ensures { OnOk result (limits.new.items ≡ limits.old.items ++ specs.later_limits group.now later.now e) }
+{
+    for cycle in e..last_of(later) + 1 {
+        push_limit(alloc, limits, group, later, e, cycle)?;
+    }
+    Ok(())
+}
+
+/// Those whose first cycle is this one or a later one.
+fn from_cycle(alloc: Global, members: &[Deadline], e: u32) -> Result<Vec<Deadline>, NoMemory>
+    ensures { IfOk result (λ later. later.items ≡ specs.from_cycle e members.now) }
+{
+    let mut later = Vec::new(alloc);
+    for one in members {
+        push_if(&mut later, e <= one.first, *one)?;
+    }
+    Ok(later)
+}
+
+/// Whether the cycle is the first of some.
+fn is_first(members: &[Deadline], e: u32) -> bool
+    ensures { result ≡ specs.is_first members.now e }
+{
+    members.iter().any(|one| one.first == e)
+}
+
+/// The due classes that belong to a group.
+fn members(
+    alloc: Global,
+    facts: &Facts,
+    table: &Table,
+    makers: &Makers,
+    deadlines: &[Deadline],
+    group: &[u32],
+) -> Result<Vec<Deadline>, NoMemory>
+    requires table { IsTable table.now }
+    requires makers { AreMakers facts.now makers.now.spans.items makers.now.rows.items makers.now.always.items }
+    ensures { IfOk result (λ members. members.items
+        ≡ steps.members_of facts.now table.now makers.now.spans.items deadlines.now group.now) }
+{
+    let mut members = Vec::new(alloc);
+    for one in deadlines {
+        let keep = belongs(facts, table, makers, group, one.class);
+        push_if(&mut members, keep, *one)?;
+    }
+    Ok(members)
+}
+
+/// The limits from a cycle on, if it is the first of some.
+fn push_from(
+    alloc: Global,
+    limits: &mut Vec<Limit>,
+    group: &[u32],
+    members: &[Deadline],
+    e: u32,
+) -> Result<(), NoMemory>
+    requires group { length group.now ≤ 8 }
+    requires early { All (λ x. x.last ≤ most_cycles) members.now }
+    ensures { OnOk result (limits.new.items ≡ limits.old.items ++ (if specs.is_first members.now e
+        then specs.later_limits group.now (specs.from_cycle e members.now) e else [])) }
+{
+    if !is_first(members, e) {
+        return Ok(());
+    }
+    let later = from_cycle(alloc, members, e)?;
+    push_later(alloc, limits, group, &later, e)
+}
+
+/// The limits of a group's classes.
+fn push_group(
+    alloc: Global,
+    limits: &mut Vec<Limit>,
+    group: &[u32],
+    members: &[Deadline],
+    k: u32,
+) -> Result<(), NoMemory>
+    requires group { length group.now ≤ 8 }
+    requires early { All (λ x. x.last ≤ most_cycles) members.now }
+    ensures { OnOk result (limits.new.items ≡ limits.old.items ++ specs.member_limits k group.now members.now) }
+{
+    for e in 0..k {
+        push_from(alloc, limits, group, members, e)?;
+    }
+    Ok(())
+}
+
+/// The limits of a group.
+fn push_limits(
+    alloc: Global,
+    limits: &mut Vec<Limit>,
+    facts: &Facts,
+    table: &Table,
+    makers: &Makers,
+    deadlines: &[Deadline],
+    k: u32,
+    group: &[u32],
+) -> Result<(), NoMemory>
+    requires table { IsTable table.now }
+    requires makers { AreMakers facts.now makers.now.spans.items makers.now.rows.items makers.now.always.items }
+    requires early { All (λ x. x.last ≤ most_cycles) deadlines.now }
+    requires group { length group.now ≤ 8 }
+    ensures { OnOk result (limits.new.items ≡ limits.old.items
+        ++ specs.group_limits facts.now table.now k makers.now.spans.items deadlines.now group.now) }
+{
+    let members = members(alloc, facts, table, makers, deadlines, group)?;
+    push_group(alloc, limits, group, &members, k)
+}
+
+/// All limits: by group, then by the cycle from which they count, then by that up to which.
+fn limits(
+    alloc: Global,
+    facts: &Facts,
+    table: &Table,
+    makers: &Makers,
+    deadlines: &[Deadline],
+    k: u32,
+) -> Result<Vec<Limit>, NoMemory>
+    requires table { IsTable table.now }
+    requires makers { AreMakers facts.now makers.now.spans.items makers.now.rows.items makers.now.always.items }
+    requires early { All (λ x. x.last ≤ most_cycles) deadlines.now }
+    ensures { IfOk result (λ limits. limits.items
+        ≡ specs.all_limits facts.now table.now k makers.now.spans.items deadlines.now) }
+{
+    let mut limits = Vec::new(alloc);
+    let groups = groups(alloc, table)?;
+    for group in groups.as_slice() {
+        push_limits(
+            alloc,
+            &mut limits,
+            facts,
+            table,
+            makers,
+            deadlines,
+            k,
+            group.as_slice(),
+        )?;
+    }
+    Ok(limits)
+}
+
+/// Whether one of these is of the class.
+fn has_class(due: &[Deadline], class: u32) -> bool
+    ensures { result ≡ list_any (λ y. y.class == class) due.now }
+{
+    due.iter().any(|one| one.class == class)
+}
+
+/// Whether some limit speaks of the class.
+fn is_limited(limits: &[Limit], one: Deadline) -> bool
+    ensures { result ≡ specs.is_limited limits.now one }
+{
+    limits
+        .iter()
+        .any(|limit| has_class(limit.due.as_slice(), one.class))
+}
+
+/// The deadlines of the classes of which some limit speaks.
+fn counted(
+    alloc: Global,
+    limits: &[Limit],
+    deadlines: &[Deadline],
+) -> Result<Vec<Deadline>, NoMemory>
+    ensures { IfOk result (λ counted. counted.items ≡ (specs.capacity_with deadlines.now limits.now).counted) }
+{
+    let mut counted = Vec::new(alloc);
+    for one in deadlines {
+        push_if(&mut counted, is_limited(limits, *one), *one)?;
+    }
+    Ok(counted)
+}
+
+impl Capacity {
+    /// What the formula of a scope says of due classes in k cycles: by live ranges alone anything.
+    pub fn of(
+        alloc: Global,
+        facts: &Facts,
+        table: &Table,
+        scope: &Scope,
+        k: u32,
+    ) -> Result<Capacity, NoMemory>
+        requires cycles { k ≤ most_cycles }
+        requires table { IsTable table.now }
+        requires graph { IsLaunchGraph facts.now }
+        ensures value { IfOk result (λ c. c ≡ capacity_in scope.now facts.now table.now k) }
+        ensures small { IfOk result (λ c. IsSmall c) }
+        ensures apart { IfOk result (λ c. AreApart c.counted) }
+    {
+        find_capacity(alloc, facts, table, scope, k)
+    }
+}
+
+/// What the formula of a scope says of due classes.
+fn find_capacity(
+    alloc: Global,
+    facts: &Facts,
+    table: &Table,
+    scope: &Scope,
+    k: u32,
+) -> Result<Capacity, NoMemory>
+    requires cycles { k ≤ most_cycles }
+    requires table { IsTable table.now }
+    requires graph { IsLaunchGraph facts.now }
+    ensures { IfOk result (λ c. c ≡ capacity_in scope.now facts.now table.now k) }
+{
+    match scope.allocation() {
+        Allocation::Block => Ok(Capacity {
+            counted: Items::new(alloc),
+            limits: Items::new(alloc),
+        }),
+        Allocation::Live => live_capacity(alloc, facts, table, scope, k),
+    }
+}
+
+/// The same by live ranges.
+fn live_capacity(
+    alloc: Global,
+    facts: &Facts,
+    table: &Table,
+    scope: &Scope,
+    k: u32,
+) -> Result<Capacity, NoMemory>
+    requires cycles { k ≤ most_cycles }
+    requires table { IsTable table.now }
+    requires graph { IsLaunchGraph facts.now }
+    ensures { IfOk result (λ c. c ≡ specs.capacity_by facts.now table.now k
+        (spans_of facts.now (listed_in facts.now table.now k scope.now).launches)) }
+{
+    let makers = find_makers(alloc, facts, table, scope, k)?;
+    let deadlines = deadlines(alloc, facts, table, &makers, k)?;
+    let all = deadlines.as_slice();
+    let limits = limits(alloc, facts, table, &makers, all, k)?;
+    let counted = counted(alloc, limits.as_slice(), all)?;
+    Ok(of_parts(counted, limits))
+}
+
+/// Of these deadlines and limits.
+fn of_parts(counted: Vec<Deadline>, limits: Vec<Limit>) -> Capacity
+    ensures { result ≡ record { counted = counted.items; limits = limits.items } }
+{
+    Capacity {
+        counted: Items::from(counted),
+        limits: Items::from(limits),
+    }
+}
