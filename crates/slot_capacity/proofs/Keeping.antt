@@ -1,7 +1,7 @@
 -- A schedule that fits keeps what is said of due classes: no more are launched from one cycle to another than there are
 -- slots and cycles.
 use Rattle.std.proofs.Common.{◌≡◌, ℕ, zero, suc, ◌+◌, ◌-◌, ◌*◌, ◌<◌, ◌≤◌, min, Bool, true, false, cond, List, [], ◌∷◌, length, map, refl, sym, ap, ◌∙◌, subst, arith, inl, inr, Option}
-use Rattle.std.specs.Prelude.{◌==◌, Contains, nat_le, nat_lt, option_and_then}
+use Rattle.std.specs.Prelude.{◌==◌, All, Contains, nat_le, nat_lt, option_and_then}
 use Rattle.std.specs.Option.{option_map_or}
 use Rattle.std.specs.List.{count_by, filter, flat_map, list_any, range_with_len}
 use Rattle.std.proofs.lemmas.Bool.{eq-eqb, leb-true}
@@ -19,7 +19,7 @@ use Rattle.schedule_meaning.specs.declared.schedules.Allocation.TheVariants.{Blo
 use Rattle.schedule_meaning.specs.declared.schedules.Launch.{Launch}
 use Rattle.cycle_encoding.specs.Variables.{classes_of, slots_of}
 use Rattle.cycle_encoding.proofs.Launched.{size-map}
-use Rattle.cycle_encoding.proofs.Members.{NoTwice, either, filter-in, filter-once, filter-out, flat-in, flat-out, map-in, map-out, nothing, range-in, range-once, range-out}
+use Rattle.cycle_encoding.proofs.Members.{All-from_members, NoTwice, either, filter-in, filter-once, filter-out, flat-in, flat-out, map-in, map-out, nothing, range-in, range-once, range-out}
 use Rattle.cycle_encoding.proofs.Tests.{some_in}
 use Rattle.slot_capacity.specs.Deadlines.{deadlines, deadlines_within, own_deadline, lowered}
 use Rattle.slot_capacity.specs.Due.{due_classes, due_within}
@@ -69,6 +69,21 @@ module _ (g : LaunchGraph) (table : Table) (k : ℕ) (spans : List (Option Span)
   deadline-due c h =
       (filter-out (is_made g spans) (due_classes g spans) c
       (subst (λ (cs : List ℕ). Contains cs c) (classes_within k) h)).0
+
+  due_low : (n c : ℕ) → Contains (due_within g spans n) c → c < next_class g.rows
+  due_low zero c h =
+      (let r = range-out 0 (next_class g.rows) c (filter-out _ (classes_of g) c h).0 in omega arith)
+  due_low (suc n) c h =
+      (let r = range-out 0 (next_class g.rows) c (filter-out _ (classes_of g) c h).0 in omega arith)
+
+  -- and its class one of the graph's
+  pub deadlines-low : (n : ℕ) → All (λ x. x.class < next_class g.rows) (deadlines_within g table k spans n)
+  deadlines-low n =
+      All-from_members (λ (x : Deadline). x.class < next_class g.rows) (deadlines_within g table k spans n)
+      (λ x h. due_low (next_class g.rows) x.class
+      (filter-out (is_made g spans) (due_classes g spans) x.class
+      (subst (λ (cs : List ℕ). Contains cs x.class) (classes_within n)
+      (map-in (λ (x : Deadline). x.class) (deadlines_within g table k spans n) x h))).0)
 
 -- ---- limits
 

@@ -13,6 +13,8 @@ pub mod Keeping
 pub mod LaunchedVars
 pub mod RowCounts
 pub mod ClauseSteps
+pub mod ClassMarks
+pub mod Lowering
 pub mod ReadTests
 pub mod ExtendSteps
 pub mod LimitLists

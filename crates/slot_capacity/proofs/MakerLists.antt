@@ -25,8 +25,8 @@ use Rattle.cycle_encoding.proofs.Marking.{and_true}
 use Rattle.cycle_encoding.proofs.Rows.{range_more}
 use Rattle.cycle_encoding.proofs.PinnedRows.{within}
 use Rattle.cycle_encoding.proofs.Sorted.{put_more, put_none}
-use Rattle.slot_capacity.specs.Makers.{always_reads, can_come, has, makers_of, makes_own, reads_of}
-use Rattle.slot_capacity.specs.MakersSteps.{AreMakers, always_among, always_of}
+use Rattle.slot_capacity.specs.Makers.{can_come, has, makers_of, makes_own, reads_of}
+use Rattle.slot_capacity.specs.MakersSteps.{AreMakers, always_among}
 use Rattle.slot_capacity.specs.declared.spans.Span.{Span}
 use Rattle.slot_capacity.proofs.Loops.{none-pass}
 
@@ -193,7 +193,7 @@ module _ (g : LaunchGraph) (spans : List (Option Span)) (rows always : List (Lis
         twice true b = and_true b
         twice false b = refl
 
-    among-all : (rows : List ℕ) (other : ℕ) → has (always_among g rows) other
+    pub among-all : (rows : List ℕ) (other : ℕ) → has (always_among g rows) other
         ≡ (nat_lt 0 (length rows) && list_all (λ r. has (reads_of g r) other) rows)
     among-all [] other = refl
     among-all (row ∷ rows) other =
@@ -204,17 +204,3 @@ module _ (g : LaunchGraph) (spans : List (Option Span)) (rows always : List (Lis
       where
         add_one : length (row ∷ rows) ≡ length rows + 1
         add_one = (let s : length (row ∷ rows) ≡ suc (length rows) = refl in omega arith)
-
-    module _ (kept : List (List ℕ)) (is : kept ≡ always) where
-      pub always-found : (class other : ℕ) (xs d : List ℕ) → true ≡ nat_lt class (length kept) → xs
-          ≡ get_or kept class d
-          → has xs other ≡ always_reads g spans class other
-      always-found class other xs d lt e =
-          ap (λ ys. has ys other) (found-is kept (always_of g spans) (is ∙ are.always_are) class xs d lt e)
-          ∙ among-all (makers_of g spans class) other
-
-      pub always-past : (class other : ℕ) → false ≡ nat_lt class (length kept) → false
-          ≡ always_reads g spans class other
-      always-past class other ge =
-          sym (ap (λ rows. nat_lt 0 (length rows) && list_all (λ r. has (reads_of g r) other) rows)
-          (none-makes class (past-is kept (always_of g spans) (is ∙ are.always_are) class ge)))

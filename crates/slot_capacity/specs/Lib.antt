@@ -3,6 +3,7 @@ pub mod Makers
 pub mod MakersSteps
 pub mod Due
 pub mod Deadlines
+pub mod DeadlinesSteps
 pub mod Limits
 pub mod LimitsSteps
 pub mod CapacityClauses

@@ -1,15 +1,18 @@
 // From which cycle a due class can be launched, and by which it has to be.
-ghost use Rattle.std.specs.Prelude.{◌≡◌, ◌++◌, ◌∷◌, [], if◌then◌else◌, min, Some, IfOk, OnOk};
+ghost use Rattle.std.specs.Prelude.{◌≡◌, ◌<◌, ◌++◌, ◌∷◌, [], if◌then◌else◌, min, map, fold, All, Some, slice_index_or, IfOk, OnOk};
 ghost use Rattle.std.specs.Option.{option_map_or};
 ghost use Rattle.slot_capacity.specs.MakersSteps.{AreMakers};
+ghost use Rattle.graph_meaning.specs.WellFormed as classes;
+ghost use Rattle.cycle_encoding.specs.Variables.{classes_of};
 ghost use Rattle.slot_capacity.specs.Deadlines as specs;
+ghost use Rattle.slot_capacity.specs.DeadlinesSteps as steps;
 ghost use Rattle.slot_capacity.specs.Makers.{is_made};
 
 use crate::due::{due_classes, is_guard};
-use crate::makers::{Makers, always_reads, rows_of};
+use crate::makers::{Makers, always_at, rows_of};
 use crate::spans::Span;
-use cycle_encoding::{Facts, delay};
-use items::NoMemory;
+use cycle_encoding::{Facts, delay, empty_lists, next_class, put_into};
+use items::{Items, NoMemory};
 use machine_table::{InstrKind, Table};
 use std::alloc::Global;
 
@@ -163,44 +166,29 @@ fn own_deadlines(
     Ok(deadlines)
 }
 
-/// The deadline that a reader makes sooner, if each row that makes the reader's class reads the other.
-fn sooner(
-    facts: &Facts,
-    _table: &Table,
-    makers: &Makers,
-    _k: u32,
-    delay: u32,
-    own: Deadline,
-    last: u32,
-    reader: Deadline,
-) -> u32
-    requires makers { AreMakers facts.now makers.now.spans.items makers.now.rows.items makers.now.always.items }
-    requires delay { delay ≡ specs.least_delay facts.now _table.now _k makers.now.spans.items own.class }
-    ensures { result ≡ specs.sooner facts.now _table.now _k makers.now.spans.items own last reader }
+/// The deadline of a class, made sooner by that of a reader.
+fn before_reader(own: Deadline, delay: u32, last: u32, reader: u32) -> u32
+    ensures { result ≡ steps.before_reader own delay last reader }
 {
-    if !always_reads(facts, makers, reader.class, own.class) {
-        return last;
-    }
-    let before = reader.last.saturating_sub(delay);
-    own.first.max(last.min(before))
+    own.first.max(last.min(reader.saturating_sub(delay)))
 }
 
-/// The deadline as these readers make it.
+/// The deadline of a class, made sooner by those of its readers.
 fn lowered(
     facts: &Facts,
     table: &Table,
     makers: &Makers,
-    k: u32,
-    readers: &[Deadline],
+    _k: u32,
+    readers: &[u32],
     own: Deadline,
 ) -> Deadline
     requires { AreMakers facts.now makers.now.spans.items makers.now.rows.items makers.now.always.items }
-    ensures { result ≡ specs.lowered facts.now table.now k makers.now.spans.items readers.now own }
+    ensures { result ≡ steps.lowered_by facts.now table.now _k makers.now.spans.items readers.now own }
 {
     let delay = least_delay(facts, table, rows_of(facts, makers, own.class));
     let mut last = own.last;
     for reader in readers {
-        last = sooner(facts, table, makers, k, delay, own, last, *reader);
+        last = before_reader(own, delay, last, *reader);
     }
     Deadline {
         class: own.class,
@@ -209,7 +197,49 @@ fn lowered(
     }
 }
 
-/// All deadlines as they make each other.
+/// Puts a deadline into the list of each of these classes.
+fn put_last(lists: &mut Vec<Items<u32>>, classes: &[u32], last: u32) -> Result<(), NoMemory>
+    ensures { OnOk result (lists.new.items ≡ fold (steps.with_last last) lists.old.items classes.now) }
+{
+    for class in classes {
+        put_into(lists, *class, last)?;
+    }
+    Ok(())
+}
+
+/// For each class the deadlines of those that always read it, in their order.
+fn reader_lasts(
+    alloc: Global,
+    facts: &Facts,
+    makers: &Makers,
+    deadlines: &[Deadline],
+) -> Result<Vec<Items<u32>>, NoMemory>
+    requires { AreMakers facts.now makers.now.spans.items makers.now.rows.items makers.now.always.items }
+    ensures { IfOk result (λ lists. lists.items
+        ≡ map (steps.lasts_for facts.now makers.now.spans.items deadlines.now) (classes_of facts.now)) }
+{
+    let mut lists = empty_lists(alloc, next_class(facts.graph()))?;
+    for reader in deadlines {
+        put_last(
+            &mut lists,
+            always_at(facts, makers, reader.class),
+            reader.last,
+        )?;
+    }
+    Ok(lists)
+}
+
+/// The list of a class.
+fn list_at<'a>(lists: &'a [Items<u32>], class: u32) -> &'a [u32]
+    ensures { result.now ≡ slice_index_or lists.now class [] }
+{
+    match lists.get(class as usize) {
+        Some(list) => list.as_slice(),
+        None => &[],
+    }
+}
+
+/// All deadlines as they make each other. It goes over them and what they read once.
 fn all_lowered(
     alloc: Global,
     facts: &Facts,
@@ -218,13 +248,15 @@ fn all_lowered(
     k: u32,
     deadlines: &[Deadline],
 ) -> Result<Vec<Deadline>, NoMemory>
-    requires { AreMakers facts.now makers.now.spans.items makers.now.rows.items makers.now.always.items }
+    requires makers { AreMakers facts.now makers.now.spans.items makers.now.rows.items makers.now.always.items }
+    requires low { All (λ x. x.class < classes.next_class facts.now.rows) deadlines.now }
     ensures { IfOk result (λ xs. xs.items
         ≡ specs.all_lowered facts.now table.now k makers.now.spans.items deadlines.now) }
 {
+    let lists = reader_lasts(alloc, facts, makers, deadlines)?;
     let mut lower = Vec::new(alloc);
     for own in deadlines {
-        lower.push(lowered(facts, table, makers, k, deadlines, *own))?;
+        lower.push(lowered(facts, table, makers, k, list_at(&lists, own.class), *own))?;
     }
     Ok(lower)
 }

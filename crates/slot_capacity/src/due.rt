@@ -1,14 +1,15 @@
 // Which classes some launch has to give.
-ghost use Rattle.std.specs.Prelude.{◌≡◌, ◌==◌, ◌&&◌, ◌||◌, not, false, IfOk};
+ghost use Rattle.std.specs.Prelude.{◌≡◌, ◌==◌, ◌&&◌, ◌||◌, not, false, slice_index_or, IfOk};
 ghost use Rattle.std.specs.Option.{option_map_or};
-ghost use Rattle.std.specs.List.{list_any};
+ghost use Rattle.std.specs.List.{flat_map, list_any};
 ghost use Rattle.graph_meaning.specs.Graphs.{is_memory_name};
 ghost use Rattle.graph_meaning.specs.WellFormed.{IsLaunchGraph};
 ghost use Rattle.slot_capacity.specs.Due as specs;
-ghost use Rattle.slot_capacity.specs.Makers as reads;
+ghost use Rattle.slot_capacity.specs.MakersSteps as steps;
 ghost use Rattle.slot_capacity.specs.MakersSteps.{AreMakers};
 
-use crate::makers::{Makers, always_reads, has};
+use crate::makers::{Makers, always_at};
+use crate::sets::{is_marked, marked};
 use cycle_encoding::{Facts, next_class};
 use graph_meaning::SetClass;
 use items::NoMemory;
@@ -81,25 +82,32 @@ fn first_due(alloc: Global, facts: &Facts) -> Result<Vec<u32>, NoMemory>
     Ok(due)
 }
 
-/// Whether the class is always read for one of these.
-fn is_always_read(facts: &Facts, makers: &Makers, due: &[u32], class: u32) -> bool
+/// What is always read for one of these classes, in their order.
+fn read_for(
+    alloc: Global,
+    facts: &Facts,
+    makers: &Makers,
+    due: &[u32],
+) -> Result<Vec<u32>, NoMemory>
     requires { AreMakers facts.now makers.now.spans.items makers.now.rows.items makers.now.always.items }
-    ensures { result ≡ list_any (λ d. reads.always_reads facts.now makers.now.spans.items d class) due.now }
+    ensures { IfOk result (λ read. read.items ≡ flat_map (steps.always_of facts.now makers.now.spans.items) due.now) }
 {
-    due.iter()
-        .any(|reader| always_reads(facts, makers, *reader, class))
+    let mut read = Vec::new(alloc);
+    for class in due {
+        read.extend_from_slice(always_at(facts, makers, *class))?;
+    }
+    Ok(read)
 }
 
-/// Whether the class is one of these, or always read for one of them.
-fn is_more_due(facts: &Facts, makers: &Makers, due: &[u32], class: u32) -> bool
-    requires { AreMakers facts.now makers.now.spans.items makers.now.rows.items makers.now.always.items }
-    ensures { result ≡ (reads.has due.now class || (specs.can_be_due facts.now class
-        && list_any (λ d. reads.always_reads facts.now makers.now.spans.items d class) due.now)) }
+/// Whether the class is one of those that are due, or can be due and is one of those that are read.
+fn is_more_due(facts: &Facts, due_marks: &[bool], read_marks: &[bool], class: u32) -> bool
+    ensures { result ≡ (slice_index_or due_marks.now class false
+        || (specs.can_be_due facts.now class && slice_index_or read_marks.now class false)) }
 {
-    has(due, class) || can_be_due(facts, class) && is_always_read(facts, makers, due, class)
+    is_marked(due_marks, class) || can_be_due(facts, class) && is_marked(read_marks, class)
 }
 
-/// The due classes with what is always read for one of them.
+/// The due classes with what is always read for one of them. It goes over them and what they read once.
 fn more_due(
     alloc: Global,
     facts: &Facts,
@@ -109,9 +117,12 @@ fn more_due(
     requires { AreMakers facts.now makers.now.spans.items makers.now.rows.items makers.now.always.items }
     ensures { IfOk result (λ more. more.items ≡ specs.more_due facts.now makers.now.spans.items due.now) }
 {
+    let read = read_for(alloc, facts, makers, due)?;
+    let read_marks = marked(alloc, facts, &read)?;
+    let due_marks = marked(alloc, facts, due)?;
     let mut more = Vec::new(alloc);
     for class in 0..next_class(facts.graph()) {
-        if is_more_due(facts, makers, due, class) {
+        if is_more_due(facts, &due_marks, &read_marks, class) {
             more.push(class)?;
         }
     }

@@ -21,6 +21,7 @@ mod groups;
 mod laws;
 mod limits;
 mod makers;
+mod sets;
 mod spans;
 
 pub use clauses::extend_by_capacity;

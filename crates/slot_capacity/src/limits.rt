@@ -1,8 +1,9 @@
 // Which due classes are too many for the slots in which they can be launched.
-ghost use Rattle.std.specs.Prelude.{◌≡◌, ◌==◌, ◌≤◌, ◌++◌, ◌∷◌, [], if◌then◌else◌, All, length, IfOk, OnOk};
-ghost use Rattle.std.specs.List.{list_any};
+ghost use Rattle.std.specs.Prelude.{◌≡◌, ◌≤◌, ◌<◌, ◌++◌, ◌∷◌, [], if◌then◌else◌, All, length, map, IfOk, OnOk};
+ghost use Rattle.std.specs.List.{flat_map};
 ghost use Rattle.schedule_meaning.specs.Limits.{most_cycles};
 ghost use Rattle.machine_table.specs.Tables.{IsTable};
+ghost use Rattle.graph_meaning.specs.WellFormed as classes;
 ghost use Rattle.graph_meaning.specs.WellFormed.{IsLaunchGraph};
 ghost use Rattle.cycle_encoding.specs.CycleFormula.{listed_in};
 ghost use Rattle.slot_capacity.specs.Limits as specs;
@@ -16,6 +17,7 @@ ghost use Rattle.slot_capacity.specs.CapacitySteps.{AreApart};
 use crate::deadlines::{Deadline, deadlines};
 use crate::groups::{belongs, groups};
 use crate::makers::{Makers, find_makers};
+use crate::sets::{is_marked, marked};
 use cycle_encoding::{Facts, Scope};
 use items::{Items, NoMemory};
 use machine_table::Table;
@@ -247,33 +249,42 @@ fn limits(
     Ok(limits)
 }
 
-/// Whether one of these is of the class.
-fn has_class(due: &[Deadline], class: u32) -> bool
-    ensures { result ≡ list_any (λ y. y.class == class) due.now }
+/// Adds the classes of these deadlines to the list.
+fn push_classes(classes: &mut Vec<u32>, due: &[Deadline]) -> Result<(), NoMemory>
+    ensures { OnOk result (classes.new.items ≡ classes.old.items ++ map (λ x. x.class) due.now) }
 {
-    due.iter().any(|one| one.class == class)
+    for one in due {
+        classes.push(one.class)?;
+    }
+    Ok(())
 }
 
-/// Whether some limit speaks of the class.
-fn is_limited(limits: &[Limit], one: Deadline) -> bool
-    ensures { result ≡ specs.is_limited limits.now one }
+/// The classes of which limits speak, in their order.
+fn limited(alloc: Global, limits: &[Limit]) -> Result<Vec<u32>, NoMemory>
+    ensures { IfOk result (λ classes. classes.items ≡ flat_map steps.classes_in limits.now) }
 {
-    limits
-        .iter()
-        .any(|limit| has_class(limit.due.as_slice(), one.class))
+    let mut classes = Vec::new(alloc);
+    for limit in limits {
+        push_classes(&mut classes, limit.due.as_slice())?;
+    }
+    Ok(classes)
 }
 
 /// The deadlines of the classes of which some limit speaks.
 fn counted(
     alloc: Global,
+    facts: &Facts,
     limits: &[Limit],
     deadlines: &[Deadline],
 ) -> Result<Vec<Deadline>, NoMemory>
+    requires graph { IsLaunchGraph facts.now }
+    requires low { All (λ x. x.class < classes.next_class facts.now.rows) deadlines.now }
     ensures { IfOk result (λ counted. counted.items ≡ (specs.capacity_with deadlines.now limits.now).counted) }
 {
+    let marks = marked(alloc, facts, &limited(alloc, limits)?)?;
     let mut counted = Vec::new(alloc);
     for one in deadlines {
-        push_if(&mut counted, is_limited(limits, *one), *one)?;
+        push_if(&mut counted, is_marked(&marks, one.class), *one)?;
     }
     Ok(counted)
 }
@@ -338,7 +349,7 @@ fn live_capacity(
     let deadlines = deadlines(alloc, facts, table, &makers, k)?;
     let all = deadlines.as_slice();
     let limits = limits(alloc, facts, table, &makers, all, k)?;
-    let counted = counted(alloc, limits.as_slice(), all)?;
+    let counted = counted(alloc, facts, limits.as_slice(), all)?;
     Ok(of_parts(counted, limits))
 }
 

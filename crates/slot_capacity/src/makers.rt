@@ -70,14 +70,14 @@ pub fn rows_of<'a>(_facts: &Facts, makers: &'a Makers, class: u32) -> &'a [u32]
     }
 }
 
-/// Whether some row makes the first class, and each that does reads the second.
-pub fn always_reads(_facts: &Facts, makers: &Makers, class: u32, other: u32) -> bool
+/// The classes that each row reads which makes the class.
+pub fn always_at<'a>(_facts: &Facts, makers: &'a Makers, class: u32) -> &'a [u32]
     requires { AreMakers _facts.now makers.now.spans.items makers.now.rows.items makers.now.always.items }
-    ensures { result ≡ specs.always_reads _facts.now makers.now.spans.items class other }
+    ensures { result.now ≡ steps.always_of _facts.now makers.now.spans.items class }
 {
     match makers.always.get(class as usize) {
-        Some(always) => has(always.as_slice(), other),
-        None => false,
+        Some(always) => always.as_slice(),
+        None => &[],
     }
 }
 

@@ -1,9 +1,20 @@
-use Rattle.std.proofs.Common.{◌≡◌, ◌∙◌, ◌+◌, ◌≤◌, suc, ap, sym, refl, arith}
+use Rattle.std.proofs.Common.{◌≡◌, ◌∙◌, ◌+◌, ◌<◌, ◌≤◌, List, suc, ap, subst, sym, refl, arith}
+use Rattle.std.specs.Prelude.{All}
+use Rattle.graph_meaning.specs.WellFormed.{next_class}
+use Rattle.slot_capacity.specs.declared.deadlines.Deadline.{Deadline}
+use Rattle.slot_capacity.proofs.Keeping.{deadlines-low}
 use Rattle.std.proofs.lemmas.Slice.Eq.{slice_eq-Decides}
 use Rattle.slot_capacity.specs.Deadlines.{all_lowered, deadlines_within}
 use Rattle.slot_capacity.proofs.Loops.{stuck}
 use Rattle.slot_capacity.proofs.SameDeadlines.{deadlines-same}
 use Rattle.slot_capacity.proofs.deadlines.deadlines.Goals as goal
+
+pub all_lowered-requires-clause-low : goal.all_lowered-requires-clause-low
+all_lowered-requires-clause-low c =
+    let g = c.args.facts.now in
+    subst (λ (xs : List Deadline). All (λ x. x.class < next_class g.rows) xs)
+    (sym (c.deref.ensures.value ∙ c.loop-step.invariant))
+    (deadlines-low g c.args.table.now c.args.k c.args.makers.now.spans.items c.loop-step._step)
 
 pub returns-then-eq : goal.returns-then-eq
 returns-then-eq c =

@@ -1,7 +1,6 @@
-use Rattle.std.proofs.Common.{◌≡◌, take}
+use Rattle.std.proofs.Common.{◌≡◌, false, get_or, take}
 use Rattle.std.specs.List.{filter}
-use Rattle.slot_capacity.specs.Limits.{is_limited}
 use Rattle.slot_capacity.proofs.limits.counted.Given as goal
 
 abbrev pub invariant-loop-one : goal.invariant-loop-one
-invariant-loop-one l = l.counted.items ≡ filter (is_limited l.limits) (take l.one-index l.deadlines)
+invariant-loop-one l = l.counted.items ≡ filter (λ x. get_or l.marks.items x.class false) (take l.one-index l.deadlines)
