@@ -66,19 +66,13 @@ fn operate(word: u32, opcode: u32) -> Option<Instr>
 {
     let op = Operate::of_code(opcode, field(word, 5, 7))?;
     let ra = register(word, 21);
-    if !allows_ra(op, ra) {
+    // An operate of one operand doesn't read Ra, which must then be 31.
+    if op.arity() == 1 && ra != 31 {
         return None;
     }
     let second = second(word)?;
     let rc = register(word, 0);
     Some(Instr::Operate { op, ra, second, rc })
-}
-
-// An operate of one operand doesn't read Ra, which must then be 31.
-fn allows_ra(op: Operate, ra: u8) -> bool
-    ensures { result ≡ decoding.allows_ra op ra }
-{
-    op.arity() != 1 || ra == 31
 }
 
 fn second(word: u32) -> Option<Second>

@@ -2,7 +2,7 @@
 use word_ops::{Access, Operate};
 
 /// The second operand of an operate.
-#[derive(Clone, Copy, PartialEq, Eq, Debug)]
+#[derive(Clone, Copy)]
 pub enum Second {
     Reg(u8),
     Literal(u8),
@@ -10,7 +10,7 @@ pub enum Second {
 
 /// An instruction. `ra`, `rb` and `rc` are register numbers. A displacement is in bytes for `Lda`, loads and stores, in
 /// units of 65536 bytes for `Ldah`, and for `Beq` in words from the word after it.
-#[derive(Clone, Copy, PartialEq, Eq, Debug)]
+#[derive(Clone, Copy)]
 pub enum Instr {
     Operate {
         op: Operate,

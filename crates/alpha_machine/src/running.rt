@@ -9,7 +9,7 @@ use alpha_encode::{Instr, decode};
 use thiserror::Error;
 
 /// Where a run ends.
-#[derive(Clone, Copy, PartialEq, Eq, Debug)]
+#[derive(Clone, Copy, PartialEq, Eq)]
 pub enum End {
     /// Just after the last word: no branch was taken.
     Fall,
@@ -20,7 +20,7 @@ pub enum End {
 }
 
 /// Why words weren't run.
-#[derive(Clone, Copy, PartialEq, Eq, Debug, Error)]
+#[derive(Clone, Copy, Debug, Error)]
 pub enum RunFault {
     /// The first word that is no instruction, or that is a branch to another place than one word past the end of the
     /// words. `at` is its index in the words.

@@ -102,8 +102,14 @@ impl State {
     {
         match instr {
             Instr::Operate { op, ra, second, rc } => self.operate(op, ra, second, rc),
-            Instr::Lda { ra, rb, disp } => self.load_address(ra, rb, disp),
-            Instr::Ldah { ra, rb, disp } => self.load_address_high(ra, rb, disp),
+            Instr::Lda { ra, rb, disp } => {
+                let value = address(self.register(rb), 1, i64::from(disp));
+                self.write(ra, value);
+            }
+            Instr::Ldah { ra, rb, disp } => {
+                let value = address(self.register(rb), 65536, i64::from(disp));
+                self.write(ra, value);
+            }
             Instr::Load {
                 access,
                 ra,
@@ -132,24 +138,6 @@ impl State {
         let second = self.second(second);
         let value = operate_result(op, self.register(ra), second);
         self.write(rc, value);
-    }
-
-    fn load_address(&mut self, ra: u8, rb: u8, disp: i16)
-        requires ra { ra < 32 }
-        requires rb { rb < 32 }
-        ensures { self.new ≡ steps.step (instructions.Lda ra rb disp) self.old }
-    {
-        let value = address(self.register(rb), 1, i64::from(disp));
-        self.write(ra, value);
-    }
-
-    fn load_address_high(&mut self, ra: u8, rb: u8, disp: i16)
-        requires ra { ra < 32 }
-        requires rb { rb < 32 }
-        ensures { self.new ≡ steps.step (instructions.Ldah ra rb disp) self.old }
-    {
-        let value = address(self.register(rb), 65536, i64::from(disp));
-        self.write(ra, value);
     }
 
     fn load(&mut self, access: Access, ra: u8, rb: u8, disp: i16)

@@ -7,7 +7,7 @@ use refute_trim::trim_text;
 use std::alloc::Global;
 
 /// What the cases of a file ask.
-#[derive(Clone, Copy, Debug, PartialEq, Eq)]
+#[derive(Clone, Copy, PartialEq, Eq)]
 pub(crate) enum Subject {
     Answers,
     /// The lines of the verdicts on an answer and the status, or the fault of the text.

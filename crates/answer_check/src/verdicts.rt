@@ -6,7 +6,7 @@ ghost use Rattle.answer_check.specs.Reports.{is_rejection};
 /// first test that fails. `Broken` has the least rule that the schedule breaks, and the first launch that breaks it.
 /// `Size` has the true counts of the clauses. `Refutation` and `Lemmas` have the number of cycles of the clauses, the
 /// first line that is refused, and the least reason against it.
-#[derive(Clone, Copy, PartialEq, Eq, Debug)]
+#[derive(Clone, Copy)]
 pub enum Verdict {
     Holds,
     Seen,

@@ -44,7 +44,6 @@ pub enum Claim {
 /// What an answer says of one goal. If the claim is that the goal has no world, there is no graph, and `rounds` and
 /// `stop` are 0 and quiet. `refute` are lines that are to refute the clauses for `k` cycles, in the claim of a missing
 /// schedule, or for one cycle less than `k`, in every other claim with a `k`; there are none for fewer than 0 cycles.
-#[derive(Drop)]
 pub struct Claimed {
     pub name: Name,
     pub graph: Option<LaunchGraph>,
@@ -54,8 +53,23 @@ pub struct Claimed {
     pub refute: Option<Lines>,
 }
 
+// By hand, so that it is proved here alone: a derived one is proved in each crate that drops a claim.
+impl Drop for Claimed {
+    fn drop(self) {
+        let Claimed {
+            name: _name,
+            graph: _graph,
+            rounds: _rounds,
+            stop: _stop,
+            claim: _claim,
+            refute: _refute,
+        } = self;
+    }
+}
+
 /// What the text of an answer says. In version 1 the encoding of the clauses is 1 or 2; in version 2 it is 3, and in
-/// version 3 it is 4, and in both targets may have pins. `library` are the families whose rules served the goals beside those of their text.
+/// version 3 it is 4, and in both targets may have pins. `library` are the families whose rules served the goals
+/// beside those of their text.
 #[derive(Drop)]
 pub struct AnswerText {
     pub version: u8,

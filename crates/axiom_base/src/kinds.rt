@@ -8,7 +8,7 @@ ghost use Rattle.axiom_base.specs.Computed as rules;
 /// condition. In its right side stand `e` and, in some, `f`, which the constants give. Displacements are words that 16
 /// bits with a sign can say; up to `C12`, sums, products and differences are modulo 2 ^ 64, and from `C13` on they are
 /// those of natural numbers where nothing else is said.
-#[derive(Clone, Copy, PartialEq, Eq, Debug)]
+#[derive(Clone, Copy, PartialEq, Eq)]
 pub enum Calc {
     /// `addq x c` is `lda x e`, where c is a displacement that isn't 0 and e is c.
     C1,
@@ -140,7 +140,7 @@ pub const FURTHER_KINDS: [Calc; 25] = [
 ];
 
 /// What the constants of a rule give for its right side: `e`, and `f`, which is 0 for a kind that gives one.
-#[derive(Clone, Copy, PartialEq, Eq, Debug)]
+#[derive(Clone, Copy)]
 pub struct Given {
     pub e: u64,
     pub f: u64,

@@ -17,7 +17,7 @@ use items::{Items, NoMemory};
 use std::alloc::Global;
 
 /// What the rules of a family rewrite.
-#[derive(Clone, Copy, PartialEq, Eq, Debug)]
+#[derive(Clone, Copy, PartialEq, Eq)]
 pub enum Family {
     /// Bytes packed, swapped and spread.
     Bytes,

@@ -5,7 +5,7 @@ ghost use Rattle.axiom_library.specs.Libraries.{all_but_halves, has_family, no_l
 use crate::families::Family;
 
 /// Which families are asked for.
-#[derive(Clone, Copy, PartialEq, Eq, Debug)]
+#[derive(Clone, Copy)]
 pub struct Library {
     bytes: bool,
     products: bool,

@@ -5,7 +5,7 @@ use std::alloc::{AllocFailed, Global};
 use text_core::TextFault;
 
 /// Why a case has no answer: no memory, or an input that isn't in the notation of its subject.
-#[derive(Clone, Copy, Debug, PartialEq, Eq, Drop)]
+#[derive(Clone, Copy, PartialEq, Eq, Drop)]
 pub enum Trouble {
     Memory,
     Unread,

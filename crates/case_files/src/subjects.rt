@@ -20,7 +20,7 @@ pub trait Subject: Copy {
 }
 
 /// A file that is one case.
-#[derive(Clone, Copy, Debug, PartialEq, Eq)]
+#[derive(Clone, Copy)]
 pub enum Whole<S> {
     /// It is the subject's input, and what is wanted lies beside it, in the file whose name ends with `.answer`.
     Input(S),

@@ -11,7 +11,7 @@ use std::alloc::Global;
 use std::marker::Model;
 
 /// Variables, numbered from 1, and clauses over them, numbered from 1.
-#[derive(Debug, Drop)]
+#[derive(Drop)]
 pub struct Cnf {
     vars: u32,
     clauses: Clauses,

@@ -9,7 +9,7 @@ use std::marker::Model;
 
 /// A list of clauses, by their places from 0. The literals of all of them lie in one vector, so a clause costs its
 /// literals and one number.
-#[derive(Debug, Drop)]
+#[derive(Drop)]
 pub struct Clauses {
     literals: Vec<Lit>,
     ends: Vec<usize>,

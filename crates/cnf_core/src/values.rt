@@ -23,7 +23,7 @@ pub trait Values {
 }
 
 /// The status of a clause under some values.
-#[derive(Clone, Copy, Debug, PartialEq, Eq)]
+#[derive(Clone, Copy)]
 pub enum ClauseStatus {
     /// All literals but this one are false, and it has no value.
     Unit(Lit),

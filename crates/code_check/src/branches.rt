@@ -6,7 +6,7 @@ ghost use Rattle.code_check.specs.Compared.{IsBranchOfWords, before_branch, bran
 use alpha_encode::{Instr, decode};
 
 /// A branch, by its place among the words, and the register that it tests.
-#[derive(Clone, Copy, PartialEq, Eq, Debug)]
+#[derive(Clone, Copy)]
 pub(crate) struct Branch {
     pub at: usize,
     pub register: u8,

@@ -4,7 +4,7 @@ use graph_meaning::Stop;
 use items::Items;
 
 /// The register in which a code leaves a target, the one of this number among the goal's.
-#[derive(Clone, Copy, PartialEq, Eq, Debug)]
+#[derive(Clone, Copy)]
 pub struct At {
     pub set: u32,
     pub reg: u8,
@@ -26,7 +26,7 @@ pub struct Checked {
 }
 
 /// What is compared of a code and its goal.
-#[derive(Clone, Copy, PartialEq, Eq, Debug)]
+#[derive(Clone, Copy)]
 pub enum Part {
     /// The address of the word of this number, where the word may trap.
     Trap(u32),
@@ -37,7 +37,7 @@ pub enum Part {
 }
 
 /// What a check of a code says.
-#[derive(Clone, Copy, PartialEq, Eq, Debug)]
+#[derive(Clone, Copy)]
 pub enum Verified {
     /// The words have the goal's outcome in each world in which axioms and assumptions hold.
     Yes,

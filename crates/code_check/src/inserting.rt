@@ -146,7 +146,7 @@ fn address_class(
 }
 
 /// The classes of an address, and of what a load reads or a store leaves there.
-#[derive(Clone, Copy, PartialEq, Eq, Debug)]
+#[derive(Clone, Copy)]
 struct Accessed {
     address: u32,
     class: u32,

@@ -1,5 +1,5 @@
 // What is printed for the codes of a text.
-ghost use Rattle.std.specs.Prelude.{◌≡◌, ◌||◌, ◌++◌, ◌∷◌, [], ◌<◌, ◌≤◌, ◌^◌, ℕ, All, IfOk, IfErr, OnOk, codes as bytes_of, decimal, length};
+ghost use Rattle.std.specs.Prelude.{◌≡◌, ◌||◌, ◌++◌, ◌∷◌, [], ◌<◌, ◌≤◌, ◌^◌, ℕ, All, IfOk, IfErr, OnOk, codes as bytes_of, length};
 ghost use Rattle.text_core.specs.Faults.{IsFaultBy, RefusesUnlessMemory};
 ghost use Rattle.text_core.specs.LineTexts.{line_text};
 ghost use Rattle.text_core.specs.declared.faults.Kind.{Kind as FaultKind};
@@ -57,22 +57,17 @@ fn put_target(text: &mut Vec<u8>, goal: &Goal, set: u32) -> Result<(), NoMemory>
     put_last(text, goal.sets.as_slice()[set as usize].name.bytes())
 }
 
-fn put_trap(text: &mut Vec<u8>, at: u32) -> Result<(), NoMemory>
-    ensures { OnOk result (text.new.items ≡ text.old.items ++ (bytes_of " "
-        ++ line_text (bytes_of "trap" ∷ decimal at ∷ []))) }
-{
-    put_word(text, b"trap")?;
-    put_number(text, u64::from(at))?;
-    put(text, b"\n")
-}
-
 fn put_part(text: &mut Vec<u8>, goal: &Goal, part: Part) -> Result<(), NoMemory>
     requires part { IsPartOf (goal_view goal.now) part }
     ensures { OnOk result (text.new.items ≡ text.old.items ++ (bytes_of " "
         ++ line_text (format.part_words (goal_view goal.now) part))) }
 {
     match part {
-        Part::Trap(at) => put_trap(text, at),
+        Part::Trap(at) => {
+            put_word(text, b"trap")?;
+            put_number(text, u64::from(at))?;
+            put(text, b"\n")
+        }
         Part::Guard => put_last(text, b"guard"),
         Part::Exit => put_last(text, b"exit"),
         Part::Set(set) => put_target(text, goal, set),
@@ -111,20 +106,15 @@ fn put_no_world(text: &mut Vec<u8>, goal: &Goal, class: u32, a: u64, b: u64) -> 
     put(text, b"\n")
 }
 
-fn put_yes(text: &mut Vec<u8>, goal: &Goal) -> Result<(), NoMemory>
-    ensures { OnOk result (text.new.items
-        ≡ text.old.items ++ line_text (format.reply_words (goal_view goal.now) answers.Yes)) }
-{
-    put(text, b"yes")?;
-    put_last(text, goal.name.bytes())
-}
-
 fn put_reply(text: &mut Vec<u8>, goal: &Goal, answer: Verified) -> Result<(), NoMemory>
     requires said { CanBeSaid (goal_view goal.now) answer }
     ensures { OnOk result (text.new.items ≡ text.old.items ++ line_text (format.reply_words (goal_view goal.now) answer)) }
 {
     match answer {
-        Verified::Yes => put_yes(text, goal),
+        Verified::Yes => {
+            put(text, b"yes")?;
+            put_last(text, goal.name.bytes())
+        }
         Verified::Unknown { rounds, stop, part } => put_unknown(text, goal, rounds, stop, part),
         Verified::NoWorld { class, a, b } => put_no_world(text, goal, class, a, b),
     }

@@ -22,7 +22,7 @@ use std::alloc::Global;
 
 /// What is found of the number of cycles of words: the fewest in which they can be done, that the most that were asked
 /// for aren't enough, or for how many a budget was spent, where fewer aren't enough.
-#[derive(Clone, Copy, PartialEq, Eq, Debug)]
+#[derive(Clone, Copy)]
 pub enum CycleCount {
     Fewest(u32),
     Over(u32),

@@ -21,7 +21,7 @@ use word_ops::{Access, Op, Operate};
 use word_terms::{Term, constant, operate_1, operate_2, read, written};
 
 /// A value that a register may have: that of a register at entry, 0, or that of a let.
-#[derive(Clone, Copy, PartialEq, Eq, Debug)]
+#[derive(Clone, Copy)]
 pub enum Value {
     Entry(u8),
     Zero,
@@ -30,7 +30,7 @@ pub enum Value {
 
 /// An address that is to be a multiple of 2^power: that of a value and a displacement, which is 0 where it is such a
 /// multiple itself.
-#[derive(Clone, Copy, PartialEq, Eq, Debug)]
+#[derive(Clone, Copy)]
 pub struct Address {
     pub value: Value,
     pub displacement: u64,

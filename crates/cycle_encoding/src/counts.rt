@@ -118,7 +118,7 @@ pub fn cluster_count(table: &Table) -> u64
 }
 
 /// Two counts of a formula or of a part of one.
-#[derive(Clone, Copy, PartialEq, Eq, Debug)]
+#[derive(Clone, Copy)]
 pub struct Sizes {
     pub vars: u64,
     pub clauses: u64,

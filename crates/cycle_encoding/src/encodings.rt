@@ -5,7 +5,7 @@ ghost use Rattle.cycle_encoding.specs.Allocations.{allocation_of};
 use schedule_meaning::Allocation;
 
 /// Which launches have variables, and of which classes it is said where they are seen.
-#[derive(Clone, Copy, PartialEq, Eq, Debug)]
+#[derive(Clone, Copy, PartialEq, Eq)]
 pub enum Encoding {
     /// Every launch that ends in time, and every class that launches make.
     Wide,

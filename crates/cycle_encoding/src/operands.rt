@@ -16,7 +16,7 @@ use schedule_meaning::{Allocation, Operand, memory_class_at, operand_at, operand
 use std::alloc::Global;
 
 /// Which classes are there without a launch.
-#[derive(Clone, Copy, PartialEq, Eq, Debug)]
+#[derive(Clone, Copy, PartialEq, Eq)]
 pub enum There {
     /// Those of inputs, which are there at entry.
     AtEntry,

@@ -86,7 +86,7 @@ pub struct Encoded {
 
 /// Why no formula is given. `Size` has the two counts of the formula that was asked for, one of which passes its limit:
 /// 262,144 variables or 2,000,000 clauses.
-#[derive(Clone, Copy, PartialEq, Eq, Debug, Error)]
+#[derive(Clone, Copy, Debug, Error)]
 pub enum EncodeFault {
     #[error("{vars} variables and {clauses} clauses are too many")]
     Size { vars: u64, clauses: u64 },

@@ -17,7 +17,7 @@ use machine_table::Table;
 use std::alloc::Global;
 
 /// A class is readable in a cluster at a cycle.
-#[derive(Clone, Copy, PartialEq, Eq, Debug)]
+#[derive(Clone, Copy)]
 pub struct Seen {
     pub class: u32,
     pub cluster: u8,

@@ -6,7 +6,7 @@ use axiom_library::Library;
 use denali_run::Settings;
 
 /// What words ask for.
-#[derive(Clone, Copy, Debug, PartialEq, Eq)]
+#[derive(Clone, Copy)]
 pub(crate) enum Command {
     /// Answers a text of goals.
     Solve(Settings),

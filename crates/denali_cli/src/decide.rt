@@ -43,7 +43,7 @@ fn too_long(alloc: Global, limit: u32) -> Result<Report, Stop>
 }
 
 /// Why nothing is to be written.
-#[derive(Clone, Copy, Debug, PartialEq, Eq)]
+#[derive(Clone, Copy, PartialEq, Eq)]
 pub(crate) enum Stop {
     SourceFault,
     Memory,

@@ -42,7 +42,7 @@ pub(crate) const DEFAULT_CYCLES: u32 = 8;
 pub(crate) const DEFAULT_CONFLICTS: u32 = 20_000;
 
 /// The options that words have set.
-#[derive(Clone, Copy, Debug, PartialEq, Eq)]
+#[derive(Clone, Copy)]
 pub(crate) struct Options {
     pub(crate) rounds: Option<u32>,
     pub(crate) nodes: Option<u32>,

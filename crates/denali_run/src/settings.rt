@@ -10,7 +10,7 @@ use schedule_meaning::Allocation;
 
 /// How the solver's next decision is picked among the free variables: `First` is the one with the least number, `Last`
 /// the one with the greatest, and `Busy` the first of those that stand in the most lemmas so far.
-#[derive(Clone, Copy, PartialEq, Eq, Debug)]
+#[derive(Clone, Copy, PartialEq, Eq)]
 pub enum Pick {
     First,
     Last,
@@ -36,7 +36,7 @@ impl Pick {
 /// that might pass them isn't begun; the most cycles, 0 to 24; the most conflicts of the solver for each number of
 /// cycles, 1 to 1000000. The rules of `library` join those of the goal's text. `allocation` says how long launches keep
 /// their registers of the pool.
-#[derive(Clone, Copy, PartialEq, Eq, Debug)]
+#[derive(Clone, Copy)]
 pub struct Settings {
     pub rounds: u32,
     pub nodes: u32,

@@ -5,7 +5,7 @@ ghost use Rattle.egraph.specs.declared.faults.MergeFault.TheVariants.{Memory};
 use items::NoMemory;
 use thiserror::Error;
 
-#[derive(Clone, Copy, PartialEq, Eq, Debug, Error)]
+#[derive(Clone, Copy, Debug, Error)]
 pub enum MergeFault {
     /// The merge would put the different constants `a` and `b` into `class`, so no world gives the joined terms one
     /// value.

@@ -16,7 +16,7 @@ use std::marker::Model;
 use word_terms::{Operator, same_operator};
 
 /// The key of an operator, and its operands, at most four, filled up with 0.
-#[derive(Clone, Copy, PartialEq, Eq, Hash, Debug)]
+#[derive(Clone, Copy, PartialEq, Eq, Hash)]
 pub struct RowKey {
     pub kind: u8,
     pub number: u64,

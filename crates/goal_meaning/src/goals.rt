@@ -52,7 +52,6 @@ pub struct Set {
 
 /// A guarded multi-assignment, with the registers of its inputs and those that it may use. In its terms a variable is
 /// the let of this number; the term of a let has only lets before it.
-#[derive(Drop)]
 pub struct Goal {
     pub name: Name,
     pub inputs: Items<InputReg>,
@@ -61,6 +60,21 @@ pub struct Goal {
     pub assumes: Items<Assume>,
     pub guard: Option<Term<Op>>,
     pub sets: Items<Set>,
+}
+
+// By hand, so that it is proved here alone: a derived one is proved in each crate that drops a goal.
+impl Drop for Goal {
+    fn drop(self) {
+        let Goal {
+            name: _name,
+            inputs: _inputs,
+            pool: _pool,
+            lets: _lets,
+            assumes: _assumes,
+            guard: _guard,
+            sets: _sets,
+        } = self;
+    }
 }
 
 /// An equation of terms with variables, which are numbered in the order of the list.
@@ -72,11 +86,23 @@ pub struct Axiom {
 }
 
 /// What a text of goals says. `builtin` is true where the text has no machine form.
-#[derive(Drop)]
 pub struct Input {
     pub table: Table,
     pub builtin: bool,
     pub ops: Items<DeclaredOp>,
     pub axioms: Items<Axiom>,
     pub goals: Items<Goal>,
+}
+
+// By hand, so that it is proved here alone: a derived one is proved in each crate that drops an input.
+impl Drop for Input {
+    fn drop(self) {
+        let Input {
+            table: _table,
+            builtin: _builtin,
+            ops: _ops,
+            axioms: _axioms,
+            goals: _goals,
+        } = self;
+    }
 }

@@ -6,7 +6,7 @@ ghost use Rattle.goal_reader.specs.declared.order.Admission.TheVariants as admis
 ghost use Rattle.goal_reader.specs.Order.{IsOrderOf, IsAdmission};
 
 /// Whether a list may come next, behind the lists before it.
-#[derive(Clone, Copy, PartialEq, Eq, Debug)]
+#[derive(Clone, Copy, PartialEq, Eq)]
 pub enum Admission {
     /// A list whose keyword comes later in the order stands before it.
     OutOfOrder,
@@ -16,7 +16,7 @@ pub enum Admission {
 }
 
 /// The last keyword that was read, by its number, and how many lists of it.
-#[derive(Clone, Copy, PartialEq, Eq, Debug)]
+#[derive(Clone, Copy)]
 pub struct Order {
     pub last: usize,
     pub count: usize,

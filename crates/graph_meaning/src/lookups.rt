@@ -54,22 +54,9 @@ impl LaunchGraph {
     fn is_sum_row(&self, power: u8, base: u32, displacement: u32, row: &LaunchRow) -> bool
         ensures { result ≡ multiples.is_sum_row self.now power base displacement row.now }
     {
-        is_lda(row.op)
-            && are_two(row.operands.as_slice(), base, displacement)
+        matches!(row.op, Op::Word(WordOp::Lda))
+            && row.operands.as_slice() == [base, displacement].as_slice()
             && power <= self.multiple_of(row.class)
-    }
-
-    /// The register of the first input of a class, 0 to 30 where the graph is well formed. It looks at each input in
-    /// turn.
-    pub fn input_register(&self, class: u32) -> Option<u8>
-        ensures { result ≡ graphs.input_register self.now class }
-    {
-        for input in self.inputs.as_slice() {
-            if input.class == class {
-                return Some(input.reg);
-            }
-        }
-        None
     }
 
     /// Whether the class has the constant 0. It looks at each row in turn.
@@ -102,24 +89,6 @@ impl LaunchGraph {
             }
         }
         self.entry
-    }
-}
-
-fn is_lda(op: Op) -> bool
-    ensures { result ≡ multiples.is_lda op }
-{
-    match op {
-        Op::Word(WordOp::Lda) => true,
-        _ => false,
-    }
-}
-
-fn are_two(operands: &[u32], x: u32, y: u32) -> bool
-    ensures { result ≡ multiples.are_two x y operands.now }
-{
-    match operands {
-        [a, b] => *a == x && *b == y,
-        _ => false,
     }
 }
 

@@ -39,6 +39,13 @@ pub fn multiples(alloc: Global, rows: &[LaunchRow], classes: usize) -> Result<It
     Ok(Items::from(powers))
 }
 
+/// Whether for the instruction of some row not every address will do.
+fn wants_multiples(rows: &[LaunchRow]) -> bool
+    ensures { result ≡ shown.wants_multiples rows.now }
+{
+    rows.iter().any(|row| alignment_of_op(row.op) > 0)
+}
+
 /// The multiples of a graph with these rows: as `multiples` gives them where the instruction of some row doesn't take
 /// every address, else none.
 pub fn known_multiples(alloc: Global, rows: &[LaunchRow]) -> Result<Items<u8>, NoMemory>
@@ -50,13 +57,6 @@ pub fn known_multiples(alloc: Global, rows: &[LaunchRow]) -> Result<Items<u8>, N
         return Ok(Items::new(alloc));
     }
     multiples(alloc, rows, rows.len())
-}
-
-/// Whether for the instruction of some row not every address will do.
-fn wants_multiples(rows: &[LaunchRow]) -> bool
-    ensures { result ≡ shown.wants_multiples rows.now }
-{
-    rows.iter().any(|row| alignment_of_op(row.op) > 0)
 }
 
 /// The constant of each class.
@@ -263,7 +263,8 @@ fn raise_masked(
     ensures raises { OnOk result (AreRaises powers.old.items queue.old.items powers.new.items queue.new.items) }
     ensures masked { OnOk result (IsMasked rows.now powers.new.items row.now) }
 {
-    if !is_and(row.op) || !is_zero(constants[row.class as usize]) {
+    let is_and = matches!(row.op, Op::Word(WordOp::Operate(Operate::And)));
+    if !is_and || !is_zero(constants[row.class as usize]) {
         return Ok(());
     }
     match row.operands.as_slice() {
@@ -298,15 +299,6 @@ fn raise_pair(
     raise_by_mask(powers, queue, x, of_y)?;
     raise_by_mask(powers, queue, y, of_x)?;
     Ok(())
-}
-
-fn is_and(op: Op) -> bool
-    ensures { result ≡ raising.is_and op }
-{
-    match op {
-        Op::Word(WordOp::Operate(Operate::And)) => true,
-        _ => false,
-    }
 }
 
 fn is_zero(constant: Option<u64>) -> bool

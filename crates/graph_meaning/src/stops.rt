@@ -1,6 +1,6 @@
 // Why the rounds that give a graph its rows end.
 /// Why rounds end.
-#[derive(Clone, Copy, PartialEq, Eq, Debug)]
+#[derive(Clone, Copy, PartialEq, Eq)]
 pub enum Stop {
     /// No match is unmet.
     Quiet,

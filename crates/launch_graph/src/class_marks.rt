@@ -14,7 +14,7 @@ use text_core::TextLines;
 use word_ops::{Op, Sort};
 
 /// What is known of a class: that no row has it, that a row has it but none tells its sort, or its sort.
-#[derive(Clone, Copy, PartialEq, Eq, Debug)]
+#[derive(Clone, Copy)]
 pub enum Mark {
     Absent,
     Unsorted,

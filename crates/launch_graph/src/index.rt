@@ -7,7 +7,7 @@ use std::alloc::Global;
 use std::marker::Model;
 
 /// The key of an operator, and its operands, filled up to four with 2 ^ 32 - 1, which is no class.
-#[derive(Clone, Copy, PartialEq, Eq, Hash, Debug)]
+#[derive(Clone, Copy, PartialEq, Eq, Hash)]
 pub struct RowKey {
     pub kind: u8,
     pub number: u64,

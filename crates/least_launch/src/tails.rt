@@ -25,7 +25,7 @@ pub enum Tail {
 }
 
 /// The first line of what is said of a schedule.
-#[derive(Clone, Copy, PartialEq, Eq, Debug)]
+#[derive(Clone, Copy)]
 pub(crate) enum TailLine {
     Least {
         launches: u32,

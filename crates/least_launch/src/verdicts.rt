@@ -9,7 +9,7 @@ use answer_check::Verdict;
 /// than is said, which is this one. `Size` has the true counts of the clauses for one launch fewer. `Fewer` has the
 /// first line that is refused, and the least reason against it. In `Least` and `Most` every test holds: no schedule has
 /// fewer launches, or that isn't known.
-#[derive(Clone, Copy, PartialEq, Eq, Debug)]
+#[derive(Clone, Copy)]
 pub enum TailVerdict {
     Plain(Verdict),
     Count { launches: u32 },

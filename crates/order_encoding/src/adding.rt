@@ -35,7 +35,7 @@ use slot_capacity::{Capacity, capacity_sizes, extend_by_capacity};
 use std::alloc::Global;
 
 /// A part of the whole formula; each comes behind the ones before it here.
-#[derive(Clone, Copy, PartialEq, Eq, Debug)]
+#[derive(Clone, Copy, PartialEq, Eq)]
 pub enum Part {
     Memory,
     Guard,

@@ -1,5 +1,5 @@
 // Which classes are needed in which cycles, by live ranges: their variables, and the clauses that say when they are.
-ghost use Rattle.std.specs.Prelude.{◌≡◌, ◌==◌, ◌&&◌, not, ◌+◌, ◌-◌, ◌<◌, ◌≤◌, ◌^◌, ◌∷◌, [], ◌++◌, length, map, IfOk, OnOk, option_to_list, slice_get};
+ghost use Rattle.std.specs.Prelude.{◌≡◌, not, ◌+◌, ◌-◌, ◌<◌, ◌≤◌, ◌^◌, ◌∷◌, [], ◌++◌, length, map, IfOk, OnOk, option_to_list, slice_get};
 ghost use Rattle.std.specs.List.{filter, list_any, range_with_len};
 ghost use Rattle.cnf_core.specs.Formula.{IsLitOf};
 ghost use Rattle.schedule_meaning.specs.Limits.{most_cycles};
@@ -33,13 +33,6 @@ pub struct NeedVars {
     pub cycles: u32,
     pub classes: Vec<u32>,
     pub starts: Vec<Option<usize>>,
-}
-
-/// Whether the launch goes to the pool and gives the class.
-fn pools(facts: &Facts, class: u32, launch: Launch) -> bool
-    ensures { result ≡ variables.pools facts.now class launch }
-{
-    takes_pool(launch, facts.instr_at(launch.row)) && class_at(facts.graph(), launch.row) == class
 }
 
 /// For each class whether some launch goes to the pool and gives it.

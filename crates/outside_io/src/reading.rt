@@ -9,7 +9,7 @@ use std::sync::ledger::{Blank, Ledger};
 use thiserror::Error;
 
 /// Why the input wasn't read.
-#[derive(Clone, Copy, Debug, PartialEq, Eq, Error)]
+#[derive(Clone, Copy, PartialEq, Eq, Debug, Error)]
 pub enum ReadAllFault {
     #[error("a read failed")]
     SourceFault,

@@ -8,7 +8,7 @@ ghost use Rattle.outside_io.specs.Causes.{HasCause};
 use thiserror::Error;
 
 /// A read or a write failed, and the object that failed has counted it.
-#[derive(Clone, Copy, Debug, PartialEq, Eq, Error)]
+#[derive(Clone, Copy, Debug, Error)]
 #[error("a read or a write failed")]
 pub struct Failed;
 

@@ -8,7 +8,7 @@ use crate::Sink;
 use thiserror::Error;
 
 /// The sink failed, and has counted it.
-#[derive(Clone, Copy, Debug, PartialEq, Eq, Error)]
+#[derive(Clone, Copy, Debug, Error)]
 #[error("a write failed")]
 pub struct SinkFault;
 

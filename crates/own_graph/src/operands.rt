@@ -5,7 +5,7 @@ ghost use Rattle.own_graph.specs.Own as own_graphs;
 use word_ops::Op;
 
 /// An operand: a class, or an operator without operands, which has a row of its own.
-#[derive(Clone, Copy, PartialEq, Eq, Debug)]
+#[derive(Clone, Copy)]
 pub(crate) enum Part {
     Class(u32),
     Leaf(Op),

@@ -14,18 +14,10 @@ use text_core::Name;
 use word_ops::Op;
 use word_terms::Operator;
 
-fn is_op(a: Op, b: Op) -> bool
-    ensures { result ≡ row_lists.is_op a b }
-{
-    let one = a.key();
-    let other = b.key();
-    one.0 == other.0 && one.1 == other.1
-}
-
 fn applies(op: Op, operands: &[u32], row: &LaunchRow) -> bool
     ensures { result ≡ row_lists.applies op operands.now row.now }
 {
-    is_op(row.op, op) && row.operands.as_slice() == operands
+    row.op.key() == op.key() && row.operands.as_slice() == operands
 }
 
 /// The class of the row that applies the operator to the operands. It looks through the rows.

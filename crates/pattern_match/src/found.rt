@@ -29,7 +29,7 @@ impl Match {
 }
 
 /// A match of folding: the class of an application of an operator to constants, and the constant that this gives.
-#[derive(Clone, Copy, PartialEq, Eq, Debug)]
+#[derive(Clone, Copy)]
 pub struct Fold {
     pub class: u32,
     pub value: u64,

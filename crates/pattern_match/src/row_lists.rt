@@ -13,7 +13,7 @@ use word_ops::Op;
 use word_terms::Operator;
 
 /// The key of an operator, and a class, or 0 where rows are listed by operators alone.
-#[derive(Clone, Copy, PartialEq, Eq, Hash, Debug)]
+#[derive(Clone, Copy, PartialEq, Eq, Hash)]
 pub struct ListKey {
     pub kind: u8,
     pub number: u64,

@@ -7,7 +7,7 @@ use word_ops::Op;
 use word_terms::Term;
 
 /// Where a block leads to: a block of its proc, by its number from 0, or the end.
-#[derive(Clone, Copy, PartialEq, Eq, Debug)]
+#[derive(Clone, Copy)]
 pub enum Target {
     Block(u32),
     Done,

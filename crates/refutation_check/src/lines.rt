@@ -13,7 +13,7 @@ use thiserror::Error;
 /// The first line that is refused, from 1, and the least reason against it: 1 its id isn't the next number; 2 a literal
 /// or a hint names nothing, or a variable stands twice; 3 a hint before the last isn't unit; 4 there is no hint, or the
 /// last isn't false; 5 its lemma is empty in the wrong place.
-#[derive(Clone, Copy, Debug, PartialEq, Eq, Error)]
+#[derive(Clone, Copy, Debug, Error)]
 #[error("line {line} is refused for reason {why}")]
 pub struct Rejected {
     pub line: u32,

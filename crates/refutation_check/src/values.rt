@@ -14,7 +14,7 @@ use std::marker::Model;
 
 /// What a check wrote at a variable: the number of the line, and the value. A mark of another line counts as none, so
 /// that no line has to clear what an earlier one wrote.
-#[derive(Clone, Copy, Debug)]
+#[derive(Clone, Copy)]
 pub struct Mark {
     line: u32,
     positive: bool,

@@ -16,7 +16,7 @@ pub struct Report {
 }
 
 /// Why a text has no report.
-#[derive(Clone, Copy, PartialEq, Eq, Debug, Error)]
+#[derive(Clone, Copy, Debug, Error)]
 pub enum TextError {
     #[error("the text has a fault")]
     Read(Fault),

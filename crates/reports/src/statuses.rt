@@ -7,7 +7,7 @@ ghost use Rattle.reports.specs.Statuses as specs;
 /// `Done`: every goal is scheduled. `Missing`: some goal has no schedule. `Spent`: some goal spent a budget. `NoWorld`:
 /// some goal's axioms hold in no world. The others are refusals: of the words, of the text, for no memory, and of the
 /// source and the sink.
-#[derive(Clone, Copy, PartialEq, Eq, Debug)]
+#[derive(Clone, Copy, PartialEq, Eq)]
 pub enum Status {
     Done,
     Missing,

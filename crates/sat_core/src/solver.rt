@@ -20,7 +20,7 @@ use pick_rule::{Picker, Rule};
 use std::alloc::Global;
 
 /// What a search came to.
-#[derive(Debug, Drop)]
+#[derive(Drop)]
 pub enum Verdict {
     /// A value for each variable, that of variable x at the place x - 1, and they satisfy every clause.
     Sat(Items<bool>),

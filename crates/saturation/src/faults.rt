@@ -9,7 +9,7 @@ use egraph::MergeFault;
 use items::NoMemory;
 use thiserror::Error;
 
-#[derive(Clone, Copy, PartialEq, Eq, Debug, Error)]
+#[derive(Clone, Copy, Debug, Error)]
 pub enum StartFault {
     /// The assumptions would put the different constants `a` and `b` into `class`, so they hold in no world.
     #[error("the constants {a} and {b} would be one")]
@@ -37,7 +37,7 @@ impl From<MergeFault> for StartFault {
     }
 }
 
-#[derive(Clone, Copy, PartialEq, Eq, Debug, Error)]
+#[derive(Clone, Copy, Debug, Error)]
 pub enum SaturateFault {
     /// A round would put the different constants `a` and `b` into `class`, so the axioms hold in no world.
     #[error("the constants {a} and {b} would be one")]

@@ -18,7 +18,7 @@ use std::alloc::Global;
 use text_core::TextFault;
 
 /// Why a text gives no graph.
-#[derive(Clone, Copy, Debug, PartialEq, Eq)]
+#[derive(Clone, Copy)]
 enum Refused {
     Text(TextFault),
     Clash(u64, u64),

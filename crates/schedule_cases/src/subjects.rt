@@ -6,7 +6,7 @@ use schedule_meaning::Allocation;
 use std::alloc::Global;
 
 /// What the cases of a file ask.
-#[derive(Clone, Copy, Debug, PartialEq, Eq)]
+#[derive(Clone, Copy, PartialEq, Eq)]
 pub(crate) enum Subject {
     Equations,
     Computed,

@@ -14,7 +14,7 @@ use machine_table::Table;
 use thiserror::Error;
 
 /// The least broken rule, and the first launch that breaks it; the list's length for a rule on the whole schedule.
-#[derive(Clone, Copy, PartialEq, Eq, Debug, Error)]
+#[derive(Clone, Copy, Debug, Error)]
 #[error("launch {launch} breaks rule {rule}")]
 pub struct Broken {
     pub launch: u32,
@@ -22,7 +22,7 @@ pub struct Broken {
 }
 
 /// What a schedule has to keep.
-#[derive(Clone, Copy, PartialEq, Eq, Debug)]
+#[derive(Clone, Copy, PartialEq, Eq)]
 pub enum Rule {
     /// Each launch is of a row that can be launched, of the branch or of a copy, in a slot that its instruction may
     /// use, and goes to the pool or to a pinned set whose word it gives. No load overwrites an input; by live ranges

@@ -9,7 +9,7 @@ pub const MOST_CYCLES: u32 = 24;
 
 /// Where the word of a launch goes: to a register of its own from the pool, or to the register to which the set of this
 /// number is pinned. The pool comes first.
-#[derive(Clone, Copy, PartialEq, Eq, PartialOrd, Ord, Debug)]
+#[derive(Clone, Copy, PartialEq, Eq, PartialOrd, Ord)]
 pub enum To {
     Pool,
     Set(u32),
@@ -17,7 +17,7 @@ pub enum To {
 
 /// A row in a slot in a cycle, each counted from 0. The row one past the last is the branch, and behind it each pinned
 /// set has the row of its copy. Launches are ordered by cycle, then by slot, then by row, then by where they go.
-#[derive(Clone, Copy, PartialEq, Eq, PartialOrd, Ord, Debug)]
+#[derive(Clone, Copy, PartialEq, Eq, PartialOrd, Ord)]
 pub struct Launch {
     pub cycle: u32,
     pub slot: u32,
@@ -26,7 +26,7 @@ pub struct Launch {
 }
 
 /// How long a launch keeps its register of the pool.
-#[derive(Clone, Copy, PartialEq, Eq, Debug)]
+#[derive(Clone, Copy, PartialEq, Eq)]
 pub enum Allocation {
     /// To the end of the block.
     Block,
@@ -41,7 +41,7 @@ pub struct Schedule {
 }
 
 /// A part of a cycle. The words of its launches stand part by part, and within a part by slot.
-#[derive(Clone, Copy, PartialEq, Eq, Debug)]
+#[derive(Clone, Copy, PartialEq, Eq)]
 pub enum Group {
     /// Operates, copies, and loads that need not wait.
     Free,
@@ -69,7 +69,7 @@ impl Group {
 }
 
 /// The class of a word operand, and whether it is the second operand of an operate, which may be a literal.
-#[derive(Clone, Copy, PartialEq, Eq, Debug)]
+#[derive(Clone, Copy)]
 pub struct Operand {
     pub class: u32,
     pub second: bool,

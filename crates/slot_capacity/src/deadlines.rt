@@ -17,7 +17,7 @@ use machine_table::{InstrKind, Table};
 use std::alloc::Global;
 
 /// A due class, the first cycle in which a launch can make it, and the last in which one has to.
-#[derive(Clone, Copy, PartialEq, Eq, Debug)]
+#[derive(Clone, Copy, PartialEq, Eq)]
 pub struct Deadline {
     pub class: u32,
     pub first: u32,

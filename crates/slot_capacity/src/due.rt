@@ -11,7 +11,6 @@ ghost use Rattle.slot_capacity.specs.MakersSteps.{AreMakers};
 use crate::makers::{Makers, always_at};
 use crate::sets::{is_marked, marked};
 use cycle_encoding::{Facts, next_class};
-use graph_meaning::SetClass;
 use items::NoMemory;
 use std::alloc::Global;
 
@@ -23,13 +22,6 @@ fn can_be_due(facts: &Facts, class: u32) -> bool
     class != facts.graph().entry && !facts.is_input(class) && !facts.is_zero(class)
 }
 
-/// Whether the set is a word target of the class.
-fn is_word_target(set: &SetClass, class: u32) -> bool
-    ensures { result ≡ (not (is_memory_name set.now.name) && (set.now.class == class)) }
-{
-    !set.is_memory() && set.class == class
-}
-
 /// Whether some word target has the class.
 fn has_word_target(facts: &Facts, class: u32) -> bool
     ensures { result ≡ list_any (λ s. not (is_memory_name s.name) && (s.class == class)) facts.now.sets }
@@ -39,7 +31,7 @@ fn has_word_target(facts: &Facts, class: u32) -> bool
         .sets
         .as_slice()
         .iter()
-        .any(|set| is_word_target(set, class))
+        .any(|set| !set.is_memory() && set.class == class)
 }
 
 /// Whether the class is that of a target or of the guard.

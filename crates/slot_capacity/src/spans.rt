@@ -11,7 +11,7 @@ use machine_table::Table;
 use std::alloc::Global;
 
 /// The first and the last cycle of a row's launches that have variables.
-#[derive(Clone, Copy, PartialEq, Eq, Debug)]
+#[derive(Clone, Copy)]
 pub struct Span {
     pub first: u32,
     pub last: u32,

@@ -4,7 +4,7 @@ use case_files::Trouble;
 use std::alloc::Global;
 
 /// What the cases of a file ask.
-#[derive(Clone, Copy, Debug, PartialEq, Eq)]
+#[derive(Clone, Copy, PartialEq, Eq)]
 pub(crate) enum Subject {
     Decimals,
     Tokens,

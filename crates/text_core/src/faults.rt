@@ -9,7 +9,7 @@ use std::alloc::{AllocFailed, Global};
 use thiserror::Error;
 
 /// Why a text is refused. Of two faults at one place, the one with the smaller number comes first.
-#[derive(Clone, Copy, Debug, PartialEq, Eq)]
+#[derive(Clone, Copy, PartialEq, Eq, Debug)]
 pub enum Kind {
     /// A byte outside comments that begins no token and isn't white space, or a byte that no text of lines may have.
     BadByte = 1,
@@ -91,7 +91,7 @@ impl Kind {
 }
 
 /// A fault of a text, and the offset of the byte where it is, from 0.
-#[derive(Clone, Copy, Debug, PartialEq, Eq)]
+#[derive(Clone, Copy, Debug)]
 pub struct Fault {
     pub place: u32,
     pub kind: Kind,
@@ -112,7 +112,7 @@ impl Fault {
 }
 
 /// Why a pass over a text gave nothing.
-#[derive(Clone, Copy, Debug, PartialEq, Eq, Error)]
+#[derive(Clone, Copy, Debug, Error)]
 pub enum TextFault {
     #[error("the text has a fault")]
     Fault(Fault),

@@ -4,7 +4,7 @@ ghost use Rattle.std.specs.List.{list_all};
 ghost use Rattle.text_core.specs.Pieces.{kind_begun, goes_on, is_word_byte, IsPiece, IsStopped};
 
 /// The kind of piece that a byte begins which stands in no comment and continues no atom.
-#[derive(Clone, Copy, Debug, PartialEq, Eq)]
+#[derive(Clone, Copy, PartialEq, Eq)]
 pub(crate) enum PieceKind {
     White,
     Comment,

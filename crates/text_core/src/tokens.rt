@@ -1,7 +1,7 @@
 // The tokens of a text of goals.
 
 /// What a token is.
-#[derive(Clone, Copy, Debug, PartialEq, Eq)]
+#[derive(Clone, Copy)]
 pub enum TokenKind {
     Opening,
     Closing,
@@ -11,7 +11,7 @@ pub enum TokenKind {
 }
 
 /// A token, the offset of its first byte in the text, from 0, and how many bytes it has.
-#[derive(Clone, Copy, Debug, PartialEq, Eq)]
+#[derive(Clone, Copy)]
 pub struct Token {
     pub kind: TokenKind,
     pub place: u32,

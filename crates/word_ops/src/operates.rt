@@ -3,7 +3,7 @@ ghost use Rattle.std.specs.Prelude.{◌≡◌, find, bytes_eq, map};
 ghost use Rattle.word_ops.specs.Operates.{row_of, operates, operate_place, code_of, has_code};
 
 /// An instruction that computes a word from words, in the order of opcodes and function codes.
-#[derive(Clone, Copy, PartialEq, Eq, Debug)]
+#[derive(Clone, Copy, PartialEq, Eq)]
 pub enum Operate {
     Addl,
     S4addl,
@@ -63,7 +63,7 @@ pub enum Operate {
 }
 
 /// Which pipes of the Alpha 21264 take an operate.
-#[derive(Clone, Copy, PartialEq, Eq, Debug)]
+#[derive(Clone, Copy, PartialEq, Eq)]
 pub enum Pipes {
     /// Each of the four.
     Any,

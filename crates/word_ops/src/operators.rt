@@ -10,7 +10,7 @@ use crate::operates::Operate;
 
 /// An operator on words: an operate of the Alpha, or one of six operators of terms.
 /// `Lda` and `Ldah` take the displacement as a second word, of which the low 16 bits count.
-#[derive(Clone, Copy, PartialEq, Eq, Debug)]
+#[derive(Clone, Copy)]
 pub enum WordOp {
     Operate(Operate),
     Neg,

@@ -6,7 +6,7 @@ ghost use Rattle.word_ops.specs.declared.sorts.Arity.{Arity as ArityOf};
 use crate::operators::{WordOp, arity};
 
 /// What a value is.
-#[derive(Clone, Copy, PartialEq, Eq, Debug)]
+#[derive(Clone, Copy, PartialEq, Eq)]
 pub enum Sort {
     Word,
     Memory,
@@ -14,7 +14,7 @@ pub enum Sort {
 
 /// How much of memory a load reads or a store writes. All but `Quad` stay within the aligned 64-bit word that holds the
 /// address.
-#[derive(Clone, Copy, PartialEq, Eq, Debug)]
+#[derive(Clone, Copy, PartialEq, Eq)]
 pub enum Access {
     /// The aligned 64-bit word that holds the address.
     Quad,
@@ -27,7 +27,7 @@ pub enum Access {
 }
 
 /// How many operands a declared operator takes.
-#[derive(Clone, Copy, PartialEq, Eq, Debug)]
+#[derive(Clone, Copy, PartialEq, Eq)]
 pub enum Arity {
     One,
     Two,
@@ -36,7 +36,7 @@ pub enum Arity {
 }
 
 /// An operator of a term.
-#[derive(Clone, Copy, PartialEq, Eq, Debug)]
+#[derive(Clone, Copy)]
 pub enum Op {
     /// The memory at entry.
     Entry,

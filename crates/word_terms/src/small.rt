@@ -3,7 +3,7 @@ use crate::operator::Operator;
 use word_ops::{Sort, meanings_are_in_range};
 
 /// Five operators that tests use beside `Op`: a test's own type can't be used in another crate.
-#[derive(Clone, Copy, PartialEq, Eq, Debug)]
+#[derive(Clone, Copy)]
 pub enum SmallOp {
     /// A constant.
     Number(u64),

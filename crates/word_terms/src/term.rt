@@ -98,11 +98,5 @@ pub fn same<O: Operator>(a: &Term<O>, b: &Term<O>) -> bool
 pub fn same_operator<O: Operator>(op: O, other: O) -> bool
     ensures exact { IsTrue result ↔ (op ≡ other) }
 {
-    same_key(op.key(), other.key())
-}
-
-fn same_key(key: (u8, u64), other: (u8, u64)) -> bool
-    ensures { IsTrue result ↔ (key ≡ other) }
-{
-    key.0 == other.0 && key.1 == other.1
+    op.key() == other.key()
 }
