@@ -2,7 +2,7 @@
 
 The table is that of crates/machine_table: slots U0 and L0 in cluster 0, U1 and L1 in cluster 1, and a value is seen one
 cycle later in the other cluster. What the table lacks is added here: `ldq` and `stq` as `ldq_u` and `stq_u`, and a
-conditional move as two instructions of a cycle each, as the 21264 executes it (Compiler Writer's Guide for the 21264)."""
+conditional move as two instructions of a cycle each, as the 21264 executes it (its Compiler Writer's Guide)."""
 import re
 import subprocess
 from collections import namedtuple

@@ -1,5 +1,6 @@
-// Refuses one allocation of a program: the one whose number, from 1, stands in REFUSE. Where it comes to that one, it says so by a byte to
-// the pipe whose number stands in TOLD. `bench/memory` preloads it; it stands on the names by which glibc gives its own allocator.
+// Refuses one allocation of a program: the one whose number, from 1, stands in REFUSE. When it comes to that one, it
+// says so by a byte to the pipe whose number stands in TOLD. `bench/memory` preloads it; it stands on the names by
+// which glibc gives its own allocator.
 #include <stdlib.h>
 #include <unistd.h>
 
