@@ -32,7 +32,7 @@ pub(crate) fn refuted_below(claim: &Claim) -> u32
 }
 
 /// The number of cycles of the clauses that a claim's lines are to refute.
-pub(crate) fn refuted_cycles(claim: &Claim) -> u32
+pub fn refuted_cycles(claim: &Claim) -> u32
     requires { FitsClaim claim.now }
     ensures value { result ≡ format.refuted_cycles claim.now }
     ensures few { result ≤ most_cycles }

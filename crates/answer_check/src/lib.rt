@@ -18,6 +18,7 @@ mod reporting;
 mod verdicts;
 
 pub use checking::check_goal;
+pub use counting::refuted_cycles;
 pub use laws::{one_first_refusal, one_verdict};
 pub use reporting::{check_answer, encoding_named, put_verdict};
 pub use verdicts::{Checked, Verdict};

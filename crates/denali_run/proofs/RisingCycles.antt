@@ -13,11 +13,8 @@ use Rattle.cnf_core.specs.declared.line.Lines.{Lines}
 use Rattle.cycle_encoding.specs.Allocations.{allocation_of}
 use Rattle.cycle_encoding.specs.CycleFormula.{Scope, allocation_in, listed_in}
 use Rattle.cycle_encoding.specs.Encodings.{IsScope}
-use Rattle.cycle_encoding.specs.Faults.{EncodeFaultIs}
 use Rattle.cycle_encoding.specs.Plans.{IsTooLarge, PassesLimit}
 use Rattle.cycle_encoding.specs.declared.encodings.Encoding.{Encoding}
-use Rattle.cycle_encoding.specs.declared.plans.EncodeFault.{EncodeFault}
-use Rattle.cycle_encoding.specs.declared.plans.EncodeFault.TheVariants.{Size, Memory}
 use Rattle.goal_meaning.specs.Views.{GoalTree, InputTree}
 use Rattle.graph_meaning.specs.declared.graphs.LaunchGraph.{LaunchGraph}
 use Rattle.machine_table.specs.declared.tables.Table.{Table}
@@ -32,7 +29,7 @@ use Rattle.schedule_meaning.specs.declared.schedules.Allocation.TheVariants.{Blo
 use Rattle.denali_run.specs.Encodings.{encoding_for, encoding_in}
 use Rattle.denali_run.specs.MatchedGoals.{IsMatched}
 use Rattle.denali_run.specs.Right.{NoneFits, IsTooFew, nothing_less, one_less, IsLeast, IsScheduled, Right}
-use Rattle.denali_run.specs.Trials.{IsTrial, IsLargeBy, IsTrialsEnd, IsTrialsEndIn}
+use Rattle.denali_run.specs.Trials.{IsTrialsEnd, IsTrialsEndIn}
 use Rattle.denali_run.proofs.Computing.{computes}
 use Rattle.denali_run.specs.declared.results.Answered.TheVariants.{Scheduled, Nowhere, SpentConflicts, SpentSize}
 use Rattle.denali_run.specs.declared.results.Found.{Found}
@@ -41,8 +38,6 @@ use Rattle.denali_run.specs.declared.results.Missing.{Missing}
 use Rattle.denali_run.specs.declared.results.Tried.{Tried}
 use Rattle.denali_run.specs.declared.settings.Settings.{Settings}
 use Rattle.denali_run.specs.declared.searching.Reached.{Reached}
-use Rattle.denali_run.specs.declared.searching.Trial.{Trial}
-use Rattle.denali_run.specs.declared.searching.Trial.TheVariants as trials
 
 module _ (clauses_for : ℕ → Formula) (g : LaunchGraph) (table : Table) (a : Allocation) (conflicts : ℕ) where
   pub refuted_of : (k : ℕ) (f : Formula) (lines : List Line) → length lines ≤ conflicts → f ≡ clauses_for k
@@ -197,19 +192,3 @@ allocated Live = refl
 pub own_allocation : (s : Settings) (g : LaunchGraph) (table : Table) (scope : Scope)
     → IsScope (encoding_in s) g table scope → allocation_in scope ≡ s.allocation
 own_allocation s g table scope is = ap allocation_of is.encoding ∙ allocated s.allocation
-
--- ---- formulas that are too large
-
-module _ (clauses_for : ℕ → Formula) (g : LaunchGraph) (table : Table) (a : Allocation) (k conflicts : ℕ) where
-  large : (fault : EncodeFault) (t : Trial) → EncodeFaultIs (clauses_for k) fault → IsLargeBy fault t
-      → IsTrial clauses_for g table a k conflicts t
-  large (Size v c) (trials.Large vars clauses) h e = ((h.0, e.0 ∙ h.1, e.1 ∙ h.2), e.2, e.3)
-  large (Size v c) (trials.Fitting s) h e = absurd e
-  large (Size v c) (trials.Refuted s) h e = absurd e
-  large (Size v c) (trials.Spent s) h e = absurd e
-  large Memory t h e = absurd e
-
-  pub all_large : {E : Type 0} (fault : EncodeFault) (r : Result Trial E) → EncodeFaultIs (clauses_for k) fault
-      → IfOk r (IsLargeBy fault) → IfOk r (IsTrial clauses_for g table a k conflicts)
-  all_large fault (Ok t) h e = large fault t h e
-  all_large fault (Err x) h e = tt

@@ -1,6 +1,6 @@
 -- The names and registers of targets that right results tell, and their words.
-use Rattle.std.proofs.Common.{◌≡◌, ◌==◌, ℕ, zero, suc, ◌<◌, ◌≤◌, ◌^◌, ◌⊎◌, inl, inr, ◌&&◌, cond, Bool, true, false, not, List, [], ◌∷◌, length, take, map, refl, sym, subst, arith, Option, Some, None}
-use Rattle.std.specs.Prelude.{All, IfSome, IsTrue, is_some, slice_get, slice_index, find, position, count_by, option_and_then, option_map, unwrap_or}
+use Rattle.std.proofs.Common.{◌≡◌, ◌==◌, ℕ, zero, suc, ◌<◌, ◌≤◌, ◌^◌, ◌⊎◌, inl, inr, ◌&&◌, cond, Bool, true, false, not, List, [], ◌∷◌, length, map, refl, sym, subst, arith, Option, Some, None}
+use Rattle.std.specs.Prelude.{All, IfSome, IsTrue, is_some, slice_get, slice_index, find, position, option_and_then, option_map, unwrap_or}
 use Rattle.std.specs.Option.{option_map_or}
 use Rattle.std.proofs.lemmas.Bool.{cases_lt}
 use Rattle.std.proofs.lemmas.List.{get_or_past}
@@ -18,7 +18,7 @@ use Rattle.register_assign.specs.Listings.{IsListing, or_register, pin_at, regis
 use Rattle.register_assign.specs.PoolPlaces.{pool_place}
 use Rattle.register_assign.specs.declared.listings.Item.{Item}
 use Rattle.register_assign.specs.declared.listings.Where.{Where}
-use Rattle.schedule_meaning.specs.Launches.{gives, pin_of, takes_pool}
+use Rattle.schedule_meaning.specs.Launches.{gives, pin_of}
 use Rattle.schedule_meaning.specs.Readers.{input_where, is_intact, passes}
 use Rattle.schedule_meaning.specs.declared.schedules.To.{To}
 use Rattle.schedule_meaning.specs.declared.schedules.To.TheVariants.{Pool, Set}

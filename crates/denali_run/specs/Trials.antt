@@ -6,8 +6,6 @@ use Rattle.cnf_core.specs.Formula.{Formula}
 use Rattle.cnf_core.specs.Outcome.{IsSpent}
 use Rattle.cnf_core.specs.declared.line.Lines.{Lines}
 use Rattle.cycle_encoding.specs.Plans.{IsTooLarge, PassesLimit}
-use Rattle.cycle_encoding.specs.declared.plans.EncodeFault.{EncodeFault}
-use Rattle.cycle_encoding.specs.declared.plans.EncodeFault.TheVariants as encode
 use Rattle.graph_meaning.specs.declared.graphs.LaunchGraph.{LaunchGraph}
 use Rattle.machine_table.specs.declared.tables.Table.{Table}
 use Rattle.saturation.specs.declared.faults.SaturateFault.{SaturateFault}
@@ -46,11 +44,6 @@ pub record IsTrialsEnd (clauses_for : ℕ → Formula) (g : LaunchGraph) (table 
 -- the same by the clauses of the encoding by which the settings ask
 abbrev pub IsTrialsEndIn : LaunchGraph → Table → Settings → Reached → Type 0
 IsTrialsEndIn g table s r = ByClauses (encoding_in s) g table (λ clauses_for. IsTrialsEnd clauses_for g table s r)
-
--- the counts are those that the fault has, and are words
-abbrev pub IsLargeBy : EncodeFault → Trial → Type 0
-IsLargeBy (encode.Size v c) (Large vars clauses) = (vars ≡ v) × (clauses ≡ c) × IsWord vars × IsWord clauses
-IsLargeBy _ _ = ⊥
 
 -- class and constants are those that the refusal has, and the constants are words
 abbrev pub IsNoWorldAtStart : StartFault → Answered → Type 0

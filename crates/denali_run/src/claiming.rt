@@ -5,7 +5,7 @@ ghost use Rattle.answer_texts.specs.Lent.{lent_claim, lent_claimed};
 ghost use Rattle.denali_run.specs.ClaimedResults as format;
 ghost use Rattle.denali_run.specs.TextAnswers as texts;
 
-use crate::results::{Answered, Found, Large, Matched, Missing, Tried};
+use crate::results::{Answered, Matched};
 use crate::settings::Settings;
 use crate::statuses::greatest_status;
 use answer_texts::{ClaimRef, ClaimedRef, put_goal, put_head};
@@ -61,55 +61,39 @@ fn claimed_on<'a>(
     }
 }
 
-fn found_claim<'a>(name: &'a Name, found: &'a Found) -> ClaimedRef<'a>
-    ensures { lent_claimed result ≡ format.claimed name.now (Answered.Scheduled found.now) }
-{
-    let claim = ClaimRef::Scheduled {
-        k: found.k,
-        schedule: &found.schedule,
-        words: &found.words,
-        places: &found.listing.wheres,
-    };
-    claimed_on(name, &found.matched, claim, found.refutation.as_ref())
-}
-
-fn missing_claim<'a>(name: &'a Name, missing: &'a Missing) -> ClaimedRef<'a>
-    ensures { lent_claimed result ≡ format.claimed name.now (Answered.Nowhere missing.now) }
-{
-    let claim = ClaimRef::Missing { k: missing.k };
-    claimed_on(name, &missing.matched, claim, Some(&missing.refutation))
-}
-
-fn tried_claim<'a>(name: &'a Name, tried: &'a Tried) -> ClaimedRef<'a>
-    ensures { lent_claimed result ≡ format.claimed name.now (Answered.SpentConflicts tried.now) }
-{
-    let claim = ClaimRef::SpentConflicts {
-        k: tried.k,
-        lemmas: &tried.lemmas,
-    };
-    claimed_on(name, &tried.matched, claim, tried.refutation.as_ref())
-}
-
-fn large_claim<'a>(name: &'a Name, large: &'a Large) -> ClaimedRef<'a>
-    ensures { lent_claimed result ≡ format.claimed name.now (Answered.SpentSize large.now) }
-{
-    let claim = ClaimRef::SpentSize {
-        k: large.k,
-        vars: large.vars,
-        clauses: large.clauses,
-    };
-    claimed_on(name, &large.matched, claim, large.refutation.as_ref())
-}
-
 /// What is claimed of the goal of this name with this result.
 fn claimed<'a>(name: &'a Name, answered: &'a Answered) -> ClaimedRef<'a>
     ensures { lent_claimed result ≡ format.claimed name.now answered.now }
 {
     match answered {
-        Answered::Scheduled(found) => found_claim(name, found),
-        Answered::Nowhere(missing) => missing_claim(name, missing),
-        Answered::SpentConflicts(tried) => tried_claim(name, tried),
-        Answered::SpentSize(large) => large_claim(name, large),
+        Answered::Scheduled(found) => {
+            let claim = ClaimRef::Scheduled {
+                k: found.k,
+                schedule: &found.schedule,
+                words: &found.words,
+                places: &found.listing.wheres,
+            };
+            claimed_on(name, &found.matched, claim, found.refutation.as_ref())
+        }
+        Answered::Nowhere(missing) => {
+            let claim = ClaimRef::Missing { k: missing.k };
+            claimed_on(name, &missing.matched, claim, Some(&missing.refutation))
+        }
+        Answered::SpentConflicts(tried) => {
+            let claim = ClaimRef::SpentConflicts {
+                k: tried.k,
+                lemmas: &tried.lemmas,
+            };
+            claimed_on(name, &tried.matched, claim, tried.refutation.as_ref())
+        }
+        Answered::SpentSize(large) => {
+            let claim = ClaimRef::SpentSize {
+                k: large.k,
+                vars: large.vars,
+                clauses: large.clauses,
+            };
+            claimed_on(name, &large.matched, claim, large.refutation.as_ref())
+        }
         Answered::NoWorld { class, a, b } => ClaimedRef {
             name,
             graph: None,

@@ -74,16 +74,6 @@ fn report_spent(alloc: Global, size: u32, cycles: u32) -> Result<Report, NoMemor
     })
 }
 
-fn report_scheduled(alloc: Global, size: u32, found: &Found) -> Result<Report, NoMemory>
-    ensures { IfOk result (λ r. (r.bytes.items
-        ≡ lines.scheduled_line size (length found.now.matched.graph.rows) found.now.k) × (r.status ≡ Status.Done)) }
-{
-    Ok(Report {
-        bytes: scheduled_line(alloc, size, found)?,
-        status: Status::Done,
-    })
-}
-
 /// The line of a result. A schedule fits in as many cycles as there are operators, and a world meets the goal, so the
 /// other two results don't come.
 fn report_generated(alloc: Global, size: u32, answered: &Answered) -> Result<Report, NoMemory>
@@ -94,7 +84,10 @@ fn report_generated(alloc: Global, size: u32, answered: &Answered) -> Result<Rep
     generated_goals_have_a_world();
     generated_goals_can_be_scheduled();
     match answered {
-        Answered::Scheduled(found) => report_scheduled(alloc, size, found),
+        Answered::Scheduled(found) => Ok(Report {
+            bytes: scheduled_line(alloc, size, found)?,
+            status: Status::Done,
+        }),
         Answered::SpentConflicts(tried) => report_spent(alloc, size, tried.k),
         Answered::SpentSize(large) => report_spent(alloc, size, large.k),
         Answered::Nowhere(_) => unreachable!(),

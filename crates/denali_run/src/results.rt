@@ -1,4 +1,7 @@
 // What a goal is answered by.
+ghost use Rattle.std.specs.Prelude.{◌≡◌, IfErr, IfOk};
+ghost use Rattle.denali_run.specs.declared.results.Found.{Found as FoundOf};
+
 use cnf_core::Lines;
 use graph_meaning::{LaunchGraph, Stop};
 use items::Items;
@@ -55,7 +58,6 @@ pub struct Large {
 }
 
 /// What a goal is answered by.
-#[derive(Drop)]
 pub enum Answered {
     Scheduled(Found),
     Nowhere(Missing),
@@ -63,4 +65,35 @@ pub enum Answered {
     SpentSize(Large),
     /// The different constants `a` and `b` would be in one class, so axioms and assumptions hold in no world.
     NoWorld { class: u32, a: u64, b: u64 },
+}
+
+// By hand, so that it is proved here alone: a derived one is proved in each crate that drops a result.
+impl Drop for Answered {
+    fn drop(self) {
+        match self {
+            Answered::Scheduled(_found) => {}
+            Answered::Nowhere(_missing) => {}
+            Answered::SpentConflicts(_tried) => {}
+            Answered::SpentSize(_large) => {}
+            Answered::NoWorld {
+                class: _class,
+                a: _a,
+                b: _b,
+            } => {}
+        }
+    }
+}
+
+impl Answered {
+    /// The schedule with what belongs to it, or else this result.
+    pub fn scheduled(self) -> Result<Found, Answered>
+        ensures ok { IfOk result (λ found. self ≡ Answered.Scheduled found) }
+        ensures err { IfErr result (λ answered. (answered ≡ self)
+            × ((found : FoundOf) → self ≡ Answered.Scheduled found → ⊥)) }
+    {
+        match self {
+            Answered::Scheduled(found) => Ok(found),
+            other => Err(other),
+        }
+    }
 }

@@ -11,7 +11,7 @@ ghost use Rattle.denali_run.specs.Encodings.{encoding_in};
 ghost use Rattle.denali_run.specs.MatchedGoals.{IsMatched, IsSettings};
 ghost use Rattle.denali_run.specs.Picks.{PicksPlace};
 ghost use Rattle.denali_run.specs.Right.{Right};
-ghost use Rattle.denali_run.specs.Trials.{IsLargeBy, IsTrialsEnd, IsTrialsEndIn, IsTrial};
+ghost use Rattle.denali_run.specs.Trials.{IsTrialsEnd, IsTrialsEndIn, IsTrial};
 
 use crate::results::{Answered, Found, Large, Matched, Missing, Tried};
 use crate::settings::Settings;
@@ -35,16 +35,6 @@ pub enum Trial {
     Refuted(Lines),
     Spent(Lines),
     Large { vars: u64, clauses: u64 },
-}
-
-/// A formula that is too large is an outcome of the trial, unlike running out of memory.
-fn too_large(fault: EncodeFault) -> Result<Trial, NoMemory>
-    ensures { IfOk result (IsLargeBy fault) }
-{
-    match fault {
-        EncodeFault::Size { vars, clauses } => Ok(Trial::Large { vars, clauses }),
-        EncodeFault::Memory => Err(AllocError),
-    }
 }
 
 /// Whether `k` cycles are enough.
@@ -72,7 +62,8 @@ pub(crate) fn try_cycles<F: Rule>(
     each_encoding_says_fits();
     let encoded = match build_formula(alloc, facts, table, scope, k) {
         Ok(encoded) => encoded,
-        Err(fault) => return too_large(fault),
+        Err(EncodeFault::Size { vars, clauses }) => return Ok(Trial::Large { vars, clauses }),
+        Err(EncodeFault::Memory) => return Err(AllocError),
     };
     match solve(alloc, &encoded.cnf, picker, conflicts)? {
         Verdict::Sat(values) => {

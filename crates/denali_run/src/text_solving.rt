@@ -21,28 +21,8 @@ use reports::{Report, TextError};
 use saturation::rules;
 use std::alloc::Global;
 
-/// Each goal's result, in the goals' order.
-fn solve_goals<F: Rule>(
-    alloc: Global,
-    input: &Input,
-    settings: &Settings,
-    picker: &Picker<F>,
-) -> Result<Vec<Answered>, NoMemory>
-    requires input { IsInput (input_view input.now) }
-    requires settings { IsSettings settings.now }
-    ensures right { IfOk result (λ results. AreRightResults (input_view input.now)
-        settings.now results.items) }
-{
-    let rules = rules(alloc, input, settings.library)?;
-    let mut results = Vec::new(alloc);
-    for at in 0..input.goals.len() {
-        results.push(solve_by_rules(alloc, input, &rules, at as u32, settings, picker)?)?;
-    }
-    Ok(results)
-}
-
-/// The same, where the solver's decisions are picked by a rule.
-fn solve_by<F: Rule + Drop>(
+/// Each goal's result, in the goals' order, where the solver's decisions are picked by a rule.
+fn solve_goals<F: Rule + Drop>(
     alloc: Global,
     input: &Input,
     settings: &Settings,
@@ -55,7 +35,12 @@ fn solve_by<F: Rule + Drop>(
         settings.now results.items) }
 {
     let picker = Picker::new(rule);
-    solve_goals(alloc, input, settings, &picker)
+    let rules = rules(alloc, input, settings.library)?;
+    let mut results = Vec::new(alloc);
+    for at in 0..input.goals.len() {
+        results.push(solve_by_rules(alloc, input, &rules, at as u32, settings, &picker)?)?;
+    }
+    Ok(results)
 }
 
 /// Each goal's result, in the goals' order, where the settings say how decisions are picked.
@@ -70,7 +55,7 @@ pub fn solve_input(
         settings.now results.items) }
 {
     let pick = settings.pick;
-    solve_by(
+    solve_goals(
         alloc,
         input,
         settings,

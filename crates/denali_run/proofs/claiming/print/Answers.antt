@@ -3,13 +3,10 @@ use Rattle.answer_texts.specs.AnswerLines.{head_lines}
 use Rattle.answer_texts.specs.Lent.{lent_claimed}
 use Rattle.goal_meaning.specs.Views.{goal_view}
 use Rattle.goal_meaning.specs.declared.goals.Goal.{Goal}
-use Rattle.text_core.specs.LineTexts.{Words, lines_text}
+use Rattle.text_core.specs.LineTexts.{lines_text}
 use Rattle.denali_run.specs.ClaimedResults.{encoding_number, version_of}
 use Rattle.denali_run.specs.Encodings.{encoding_in}
-use Rattle.denali_run.specs.declared.settings.Settings.{Settings}
-use Rattle.machine_table.specs.declared.tables.Table.{Table}
 use Rattle.denali_run.proofs.ClaimedGoals.{no_goals, goal_more, all_goals}
-use Rattle.denali_run.proofs.ResultLines.{whole_head}
 use Rattle.denali_run.proofs.claiming.print.Goals as goal
 
 pub loop-at-init : goal.loop-at-init

@@ -1,4 +1,4 @@
-use Rattle.std.proofs.Common.{refl, subst, List, Contains, length, map}
+use Rattle.std.proofs.Common.{refl, subst, Contains, length, map}
 use Rattle.std.proofs.lemmas.List.Elements.{All-contains}
 use Rattle.axiom_base.specs.Schemes.{AddedRules}
 use Rattle.goal_meaning.specs.Names.{declared_name}

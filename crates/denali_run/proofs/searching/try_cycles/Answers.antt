@@ -11,17 +11,12 @@ use Rattle.cycle_encoding.specs.Plans.{Plan}
 use Rattle.cycle_encoding.specs.Shapes.{shown, numbered}
 use Rattle.order_encoding.specs.WholeFormula.{formula_in}
 use Rattle.denali_run.specs.Right.{IsTooFew}
-use Rattle.denali_run.proofs.RisingCycles.{all_large, refuted_of}
+use Rattle.denali_run.proofs.RisingCycles.{refuted_of}
 use Rattle.denali_run.proofs.searching.try_cycles.Goals as goal
 
 -- the formula is that of the graph
 pub build_formula-requires-clause-graph : goal.build_formula-requires-clause-graph
 build_formula-requires-clause-graph g c = subst IsLaunchGraph (sym c.requires.facts) c.requires.graph
-
-pub returns-in-Err : goal.returns-in-Err
-returns-in-Err g c =
-    all_large (formula_in c.args.scope.now c.args.facts.now c.args.table.now) c.args.graph.now c.args.table.now
-    (allocation_in c.args.scope.now) c.args.k c.args.conflicts c.in-Err.fault c.too_large.result c.in-Err.ensures.size c.too_large.ensures
 
 pub returns-in-Sat : goal.returns-in-Sat
 returns-in-Sat g c =
