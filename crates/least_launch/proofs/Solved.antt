@@ -11,6 +11,8 @@ use Rattle.denali_run.specs.declared.results.Found.{Found}
 use Rattle.denali_run.specs.declared.settings.Settings.{Settings}
 use Rattle.denali_run.proofs.RisingCycles.{found_right}
 use Rattle.goal_meaning.specs.Views.{GoalTree, InputTree}
+use Rattle.machine_table.specs.declared.tables.Table.{Table}
+use Rattle.schedule_meaning.specs.declared.schedules.Allocation.{Allocation}
 use Rattle.least_launch.specs.LeastAnswers.{IsTailOf}
 use Rattle.least_launch.specs.SolvedGoals.{CanLessen, IsLessened, IsWithFewest, MayLessen}
 use Rattle.least_launch.specs.declared.tails.Tail.{Tail}
@@ -82,3 +84,12 @@ said_more P [] [] x y z p = (p, tt)
 said_more P [] (v ∷ ys) x y z p = absurd z
 said_more P (u ∷ xs) [] x y z p = absurd z
 said_more P (u ∷ xs) (v ∷ ys) x y z p = (z.0, said_more P xs ys x y z.1 p)
+
+-- a result without a schedule stays, and nothing is said of it
+pub none_stays : (table : Table) (a : Allocation) (conflicts : ℕ) (old new : Answered)
+    → ((found : Found) → old ≡ answered.Scheduled found → ⊥) → new ≡ old → IsWithFewest table a conflicts old new None
+none_stays table a conflicts (answered.Scheduled f) new never is = absurd (never f refl)
+none_stays table a conflicts (answered.Nowhere m) new never is = is
+none_stays table a conflicts (answered.SpentConflicts t) new never is = is
+none_stays table a conflicts (answered.SpentSize l) new never is = is
+none_stays table a conflicts (answered.NoWorld class x y) new never is = is

@@ -1,8 +1,6 @@
 // The bytes of an answer with lines behind it, and its status.
-ghost use Rattle.std.specs.Prelude.{◌≡◌, ◌++◌, ◌||◌, IfOk, length, if◌then◌else◌};
+ghost use Rattle.std.specs.Prelude.{◌≡◌, ◌++◌, ◌||◌, IfOk, length};
 ghost use Rattle.denali_run.specs.ClaimedResults.{answer_text};
-ghost use Rattle.reports.specs.Statuses.{greater};
-ghost use Rattle.reports.specs.declared.statuses.Status.TheVariants.{Spent};
 ghost use Rattle.goal_meaning.specs.Views.{input_view};
 ghost use Rattle.text_core.specs.LineTexts.{lines_text};
 ghost use Rattle.least_launch.specs.LeastAnswers as format;
@@ -39,17 +37,6 @@ fn some_is_most(said: &[Option<Tail>]) -> bool
     some
 }
 
-/// The status that the results ask for, and at least that of a spent budget where one is.
-fn with_spent(status: Status, spent: bool) -> Status
-    ensures { result ≡ (if spent then greater status Spent else status) }
-{
-    if spent {
-        status.or_greater(Status::Spent)
-    } else {
-        status
-    }
-}
-
 /// The answer to an input, of which each goal has a result that was found with these settings, with what is said of
 /// their schedules behind it.
 pub fn report_least(
@@ -67,8 +54,10 @@ pub fn report_least(
     let answer = answer_text(alloc, settings, input, results)?;
     let mut bytes = answer.bytes;
     put_tails(alloc, &mut bytes, said)?;
-    Ok(Report {
-        bytes,
-        status: with_spent(answer.status, some_is_most(said)),
-    })
+    let status = if some_is_most(said) {
+        answer.status.or_greater(Status::Spent)
+    } else {
+        answer.status
+    };
+    Ok(Report { bytes, status })
 }

@@ -104,12 +104,12 @@ fn with_fewest<F: Rule>(
     requires can { MayLessen table.now allocation answered }
     ensures { IfOk result (λ p. IsWithFewest table.now allocation conflicts answered p.0 p.1) }
 {
-    match answered {
-        Answered::Scheduled(found) => {
+    match answered.scheduled() {
+        Ok(found) => {
             let (found, tail) = lessened(alloc, table, allocation, conflicts, found, picker)?;
             Ok((Answered::Scheduled(found), Some(tail)))
         }
-        other => Ok((other, None)),
+        Err(other) => Ok((other, None)),
     }
 }
 
@@ -146,31 +146,8 @@ pub struct LeastResults {
     pub said: Vec<Option<Tail>>,
 }
 
-/// Each goal's result with the fewest launches, in the goals' order.
-fn solve_goals<F: Rule>(
-    alloc: Global,
-    input: &Input,
-    settings: &Settings,
-    picker: &Picker<F>,
-) -> Result<LeastResults, NoMemory>
-    requires input { IsInput (input_view input.now) }
-    requires settings { IsSettings settings.now }
-    ensures right { IfOk result (λ s. AreRightResults (input_view input.now) settings.now s.results.items) }
-    ensures said { IfOk result (λ s. AllZip (IsTailOf input.now.table settings.now.allocation settings.now.conflicts)
-        s.results.items s.said.items) }
-{
-    let mut results = Vec::new(alloc);
-    let mut said = Vec::new(alloc);
-    for at in 0..input.goals.len() {
-        let (answered, tail) = solve_fewest(alloc, input, at as u32, settings, picker)?;
-        results.push(answered)?;
-        said.push(tail)?;
-    }
-    Ok(LeastResults { results, said })
-}
-
-/// The same, where the solver's decisions are picked by a rule.
-fn solve_by<F: Rule + Drop>(
+/// Each goal's result with the fewest launches, in the goals' order, where the solver's decisions are picked by a rule.
+fn solve_goals<F: Rule + Drop>(
     alloc: Global,
     input: &Input,
     settings: &Settings,
@@ -184,7 +161,14 @@ fn solve_by<F: Rule + Drop>(
         s.results.items s.said.items) }
 {
     let picker = Picker::new(rule);
-    solve_goals(alloc, input, settings, &picker)
+    let mut results = Vec::new(alloc);
+    let mut said = Vec::new(alloc);
+    for at in 0..input.goals.len() {
+        let (answered, tail) = solve_fewest(alloc, input, at as u32, settings, &picker)?;
+        results.push(answered)?;
+        said.push(tail)?;
+    }
+    Ok(LeastResults { results, said })
 }
 
 /// Each goal's result with the fewest launches, where the settings say how decisions are picked.
@@ -200,7 +184,7 @@ pub fn solve_least_input(
         s.results.items s.said.items) }
 {
     let pick = settings.pick;
-    solve_by(
+    solve_goals(
         alloc,
         input,
         settings,

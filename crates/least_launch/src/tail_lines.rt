@@ -39,22 +39,17 @@ pub(crate) fn tail_line(text: &TextLines<'_>) -> Option<u32>
     None
 }
 
-/// The number that a word writes, below a limit.
-fn below(word: &[u8], limit: u64) -> Option<u64>
-    ensures some { IfSome result (λ n. (word.now ≡ std.decimal n) × (n < limit)) }
-    ensures none { IfNone result ((n : ℕ) → n < limit → word.now ≡ std.decimal n → ⊥) }
-{
-    let number = decimal(word)?;
-    if number < limit { Some(number) } else { None }
-}
-
 /// The number that a word writes, below the limit of lines.
 fn small(word: &[u8]) -> Option<u32>
     ensures some { IfSome result (λ n. (word.now ≡ std.decimal n) × (n < 2 ^ 31)) }
     ensures none { IfNone result ((n : ℕ) → n < 2 ^ 31 → word.now ≡ std.decimal n → ⊥) }
 {
-    let number = below(word, LIMIT)?;
-    Some(number as u32)
+    let number = decimal(word)?;
+    if number < LIMIT {
+        Some(number as u32)
+    } else {
+        None
+    }
 }
 
 /// The number of some launches that a word writes.
