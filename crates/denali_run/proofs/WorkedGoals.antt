@@ -4,6 +4,7 @@ use Rattle.std.specs.Prelude.{IfOk, slice_get, Some, length, get_or}
 use Rattle.std.proofs.lemmas.List.{get_or-map, length-map}
 use Rattle.std.proofs.lemmas.List.Elements.{Contains-get_or}
 use Rattle.std.proofs.lemmas.Option.{slice_get_read}
+use Rattle.word_ops.specs.Words.{IsWord}
 use Rattle.word_ops.specs.Worlds.{World, IsWorld}
 use Rattle.word_ops.specs.declared.sorts.Op.{Op}
 use Rattle.axiom_base.specs.Schemes.{AddedRules}
@@ -23,17 +24,14 @@ use Rattle.saturation.specs.Grown.{IsGrown}
 use Rattle.saturation.specs.GoalTerms.{assumed_pairs, kept_terms, present_terms, rules_of}
 use Rattle.saturation.specs.Rounds.{IsSaturated, IsHopeless, RoundsNameLowClass, SaturateFaultIs, StopIs}
 use Rattle.saturation.specs.StandsFor.{StandsFor, graph_view}
-use Rattle.saturation.specs.declared.faults.SaturateFault.{SaturateFault}
 use Rattle.saturation.specs.declared.faults.SaturateFault.TheVariants as rounds
 use Rattle.denali_run.specs.MatchedGoals.{IsClashOf, IsMatched}
-use Rattle.denali_run.specs.Right.{HasNoWorld, Right}
+use Rattle.denali_run.specs.Right.{Right}
 use Rattle.saturation.specs.AtStart.{IsHopelessAtStart, StartFaultIs, StartNamesLowClass, most_rows_at_start}
-use Rattle.denali_run.specs.Trials.{IsNoWorldAtStart, IsNoWorldInRounds}
 use Rattle.denali_run.specs.declared.results.Answered.{Answered}
-use Rattle.denali_run.specs.declared.results.Answered.TheVariants.{Scheduled, Nowhere, SpentConflicts, SpentSize, NoWorld}
+use Rattle.denali_run.specs.declared.results.Answered.TheVariants.{NoWorld}
 use Rattle.denali_run.specs.declared.results.Matched.{Matched}
 use Rattle.denali_run.specs.declared.settings.Settings.{Settings}
-use Rattle.saturation.specs.declared.faults.StartFault.{StartFault}
 use Rattle.saturation.specs.declared.faults.StartFault.TheVariants as start
 
 abbrev pub RulesAreTrue : Library → InputTree → GoalTree → Type 0
@@ -43,67 +41,48 @@ RulesAreTrue library input goal =
     → HoldsFor input goal world
     → RulesHold world (declared_name input.ops) (rules_of library input) (assumed_pairs goal)
 
+-- a result whose class and constants have other names
+pub renamed : (P : Answered → Type 0) (class a b c x y : ℕ) → c ≡ class → x ≡ a → y ≡ b → P (NoWorld class a b)
+    → P (NoWorld c x y)
+renamed P class a b c x y e f g h =
+    subst (λ n. P (NoWorld n x y)) (sym e) (subst (λ n. P (NoWorld class n y)) (sym f)
+    (subst (λ n. P (NoWorld class a n)) (sym g) h))
+
 module _ (input : InputTree) (goal : GoalTree) (s : Settings) (rules_true : RulesAreTrue s.library input goal) where
-  named : (a b x y : ℕ) → x ≡ a → y ≡ b → HasNoWorld input goal s a b → HasNoWorld input goal s x y
-  named a b x y e f h = subst (λ n. HasNoWorld input goal s n y) (sym e) (subst (HasNoWorld input goal s a) (sym f) h)
-
-  low_class : (class c : ℕ) → class < 2 ^ 31 → c ≡ class → c < 2 ^ 31
-  low_class class c low e = omega (arith, low, e)
-
-  at_start : (fault : StartFault) (answered : Answered) → StartFaultIs goal fault → IsHopelessAtStart goal fault
-      → StartNamesLowClass fault → IsNoWorldAtStart fault answered → Right input goal s answered
-  at_start (start.NoWorld class a b) (NoWorld c x y) h hopeless low e = (
-    named a b x y e.1 e.2 (record {
+  pub at_start : (class a b : ℕ) → StartFaultIs goal (start.NoWorld class a b)
+      → IsHopelessAtStart goal (start.NoWorld class a b) → StartNamesLowClass (start.NoWorld class a b)
+      → IsWord a → IsWord b → Right input goal s (NoWorld class a b)
+  at_start class a b h hopeless low wa wb = (
+    record {
       round = 0;
       reached = (omega arith, λ i lt. absurd (omega (arith, lt)));
       clash = h (rules_of s.library input);
       nowhere = λ world is holds. hopeless (declared_name input.ops) (rules_of s.library input) world is
           (rules_true world is holds);
-    }),
-    low_class class c low e.0,
-    e.3,
-    e.4,
+    },
+    low,
+    wa,
+    wb,
   )
-  at_start (start.NoWorld class a b) (Scheduled f) h hopeless low e = absurd e
-  at_start (start.NoWorld class a b) (Nowhere f) h hopeless low e = absurd e
-  at_start (start.NoWorld class a b) (SpentConflicts f) h hopeless low e = absurd e
-  at_start (start.NoWorld class a b) (SpentSize f) h hopeless low e = absurd e
-  at_start start.Memory answered h hopeless low e = absurd e
-
-  pub start_refused : {E : Type 0} (fault : StartFault) (r : Result Answered E) → StartFaultIs goal fault
-      → IsHopelessAtStart goal fault → StartNamesLowClass fault → IfOk r (IsNoWorldAtStart fault)
-      → IfOk r (Right input goal s)
-  start_refused fault (Ok x) h hopeless low e = at_start fault x h hopeless low e
-  start_refused fault (Err x) h hopeless low e = tt
 
   module _ (graph : Graph Op) (grown : IsGrown (rules_of s.library input) (present_terms goal) (assumed_pairs goal) graph 0)
       (stands : GraphStands (declared_name input.ops) (rules_of s.library input) (assumed_pairs goal) (kept_terms goal) graph) where
-    in_rounds : (fault : SaturateFault) (answered : Answered)
-        → SaturateFaultIs (rules_of s.library input) graph s.rounds s.nodes fault → IsHopeless (rules_of s.library input) graph fault
-        → RoundsNameLowClass fault → IsNoWorldInRounds fault answered → Right input goal s answered
-    in_rounds (rounds.NoWorld class a b) (NoWorld c x y) h hopeless low e = (
-      named a b x y e.1 e.2 (record {
+    pub in_rounds : (class a b : ℕ)
+        → SaturateFaultIs (rules_of s.library input) graph s.rounds s.nodes (rounds.NoWorld class a b)
+        → IsHopeless (rules_of s.library input) graph (rounds.NoWorld class a b)
+        → RoundsNameLowClass (rounds.NoWorld class a b) → IsWord a → IsWord b → Right input goal s (NoWorld class a b)
+    in_rounds class a b h hopeless low wa wb = (
+      record {
         round = h.round;
         reached = (h.asked, (h.clash (present_terms goal) (assumed_pairs goal) grown).1);
         clash = (h.clash (present_terms goal) (assumed_pairs goal) grown).0;
         nowhere = λ world is holds. hopeless (declared_name input.ops) (assumed_pairs goal) (kept_terms goal) stands
             world is (rules_true world is holds);
-      }),
-      low_class class c low e.0,
-      e.3,
-      e.4,
+      },
+      low,
+      wa,
+      wb,
     )
-    in_rounds (rounds.NoWorld class a b) (Scheduled f) h hopeless low e = absurd e
-    in_rounds (rounds.NoWorld class a b) (Nowhere f) h hopeless low e = absurd e
-    in_rounds (rounds.NoWorld class a b) (SpentConflicts f) h hopeless low e = absurd e
-    in_rounds (rounds.NoWorld class a b) (SpentSize f) h hopeless low e = absurd e
-    in_rounds rounds.Memory answered h hopeless low e = absurd e
-
-    pub rounds_refused : {E : Type 0} (fault : SaturateFault) (r : Result Answered E)
-        → SaturateFaultIs (rules_of s.library input) graph s.rounds s.nodes fault → IsHopeless (rules_of s.library input) graph fault
-        → RoundsNameLowClass fault → IfOk r (IsNoWorldInRounds fault) → IfOk r (Right input goal s)
-    rounds_refused fault (Ok x) h hopeless low e = in_rounds fault x h hopeless low e
-    rounds_refused fault (Err x) h hopeless low e = tt
 
     pub matched_is : (after : Graph Op) (m : Matched)
         → IsSaturated (rules_of s.library input) graph s.rounds s.nodes after m.rounds m.stop → m.rounds ≤ s.rounds

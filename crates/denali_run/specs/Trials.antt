@@ -1,5 +1,4 @@
--- What the clauses for a number of cycles come to, where trials of rising numbers end, and which refusals are passed
--- on. Source: this project.
+-- What the clauses for a number of cycles come to, and where trials of rising numbers end. Source: this project.
 use Rattle.std.specs.Prelude.{◌≡◌, ◌≤◌, ℕ}
 use Rattle.word_ops.specs.Words.{IsWord}
 use Rattle.cnf_core.specs.Formula.{Formula}
@@ -8,16 +7,10 @@ use Rattle.cnf_core.specs.declared.line.Lines.{Lines}
 use Rattle.cycle_encoding.specs.Plans.{IsTooLarge, PassesLimit}
 use Rattle.graph_meaning.specs.declared.graphs.LaunchGraph.{LaunchGraph}
 use Rattle.machine_table.specs.declared.tables.Table.{Table}
-use Rattle.saturation.specs.declared.faults.SaturateFault.{SaturateFault}
-use Rattle.saturation.specs.declared.faults.SaturateFault.TheVariants as rounds
-use Rattle.saturation.specs.declared.faults.StartFault.{StartFault}
-use Rattle.saturation.specs.declared.faults.StartFault.TheVariants as start
 use Rattle.schedule_meaning.specs.Fits.{Fits}
 use Rattle.schedule_meaning.specs.declared.schedules.Allocation.{Allocation}
 use Rattle.denali_run.specs.Encodings.{encoding_in}
 use Rattle.denali_run.specs.Right.{ByClauses, IsLeast, IsTooFew}
-use Rattle.denali_run.specs.declared.results.Answered.{Answered}
-use Rattle.denali_run.specs.declared.results.Answered.TheVariants.{NoWorld}
 use Rattle.denali_run.specs.declared.searching.Reached.{Reached}
 use Rattle.denali_run.specs.declared.searching.Trial.{Trial}
 use Rattle.denali_run.specs.declared.searching.Trial.TheVariants.{Fitting, Refuted, Spent, Large}
@@ -44,12 +37,3 @@ pub record IsTrialsEnd (clauses_for : ℕ → Formula) (g : LaunchGraph) (table 
 -- the same by the clauses of the encoding by which the settings ask
 abbrev pub IsTrialsEndIn : LaunchGraph → Table → Settings → Reached → Type 0
 IsTrialsEndIn g table s r = ByClauses (encoding_in s) g table (λ clauses_for. IsTrialsEnd clauses_for g table s r)
-
--- class and constants are those that the refusal has, and the constants are words
-abbrev pub IsNoWorldAtStart : StartFault → Answered → Type 0
-IsNoWorldAtStart (start.NoWorld class a b) (NoWorld c x y) = (c ≡ class) × (x ≡ a) × (y ≡ b) × IsWord x × IsWord y
-IsNoWorldAtStart _ _ = ⊥
-
-abbrev pub IsNoWorldInRounds : SaturateFault → Answered → Type 0
-IsNoWorldInRounds (rounds.NoWorld class a b) (NoWorld c x y) = (c ≡ class) × (x ≡ a) × (y ≡ b) × IsWord x × IsWord y
-IsNoWorldInRounds _ _ = ⊥

@@ -37,9 +37,9 @@ fn generated_settings() -> Settings
 }
 
 /// `gen SIZE rows ROWS cycles CYCLES`
-fn scheduled_line(alloc: Global, size: u32, found: &Found) -> Result<Vec<u8>, NoMemory>
-    ensures { IfOk result (λ text. text.items
-        ≡ lines.scheduled_line size (length found.now.matched.graph.rows) found.now.k) }
+fn report_scheduled(alloc: Global, size: u32, found: &Found) -> Result<Report, NoMemory>
+    ensures { IfOk result (λ r. (r.bytes.items
+        ≡ lines.scheduled_line size (length found.now.matched.graph.rows) found.now.k) × (r.status ≡ Status.Done)) }
 {
     let mut text = Vec::new(alloc);
     put(&mut text, b"gen")?;
@@ -49,12 +49,15 @@ fn scheduled_line(alloc: Global, size: u32, found: &Found) -> Result<Vec<u8>, No
     put_word(&mut text, b"cycles")?;
     put_number(&mut text, u64::from(found.k))?;
     put(&mut text, b"\n")?;
-    Ok(text)
+    Ok(Report {
+        bytes: text,
+        status: Status::Done,
+    })
 }
 
 /// `gen SIZE spent CYCLES`
-fn spent_line(alloc: Global, size: u32, cycles: u32) -> Result<Vec<u8>, NoMemory>
-    ensures { IfOk result (λ text. text.items ≡ lines.spent_line size cycles) }
+fn report_spent(alloc: Global, size: u32, cycles: u32) -> Result<Report, NoMemory>
+    ensures { IfOk result (λ r. (r.bytes.items ≡ lines.spent_line size cycles) × (r.status ≡ Status.Spent)) }
 {
     let mut text = Vec::new(alloc);
     put(&mut text, b"gen")?;
@@ -62,14 +65,8 @@ fn spent_line(alloc: Global, size: u32, cycles: u32) -> Result<Vec<u8>, NoMemory
     put_word(&mut text, b"spent")?;
     put_number(&mut text, u64::from(cycles))?;
     put(&mut text, b"\n")?;
-    Ok(text)
-}
-
-fn report_spent(alloc: Global, size: u32, cycles: u32) -> Result<Report, NoMemory>
-    ensures { IfOk result (λ r. (r.bytes.items ≡ lines.spent_line size cycles) × (r.status ≡ Status.Spent)) }
-{
     Ok(Report {
-        bytes: spent_line(alloc, size, cycles)?,
+        bytes: text,
         status: Status::Spent,
     })
 }
@@ -84,10 +81,7 @@ fn report_generated(alloc: Global, size: u32, answered: &Answered) -> Result<Rep
     generated_goals_have_a_world();
     generated_goals_can_be_scheduled();
     match answered {
-        Answered::Scheduled(found) => Ok(Report {
-            bytes: scheduled_line(alloc, size, found)?,
-            status: Status::Done,
-        }),
+        Answered::Scheduled(found) => report_scheduled(alloc, size, found),
         Answered::SpentConflicts(tried) => report_spent(alloc, size, tried.k),
         Answered::SpentSize(large) => report_spent(alloc, size, large.k),
         Answered::Nowhere(_) => unreachable!(),

@@ -5,7 +5,6 @@ ghost use Rattle.goal_meaning.specs.WellFormed.{IsInput};
 ghost use Rattle.saturation.specs.GoalTerms.{rules_of};
 ghost use Rattle.denali_run.specs.MatchedGoals.{IsSettings};
 ghost use Rattle.denali_run.specs.Right.{Right};
-ghost use Rattle.denali_run.specs.Trials.{IsNoWorldAtStart, IsNoWorldInRounds};
 
 use crate::results::{Answered, Matched};
 use crate::searching::search;
@@ -18,26 +17,6 @@ use saturation::{
     grown_graphs_can_be_launched, launched_graphs_stand, rules, saturate, start, to_launch,
 };
 use std::alloc::{AllocError, Global};
-
-/// Two constants in one class at the start are a result of the goal, unlike running out of memory.
-fn no_world_at_start(fault: StartFault) -> Result<Answered, NoMemory>
-    ensures { IfOk result (IsNoWorldAtStart fault) }
-{
-    match fault {
-        StartFault::NoWorld { class, a, b } => Ok(Answered::NoWorld { class, a, b }),
-        StartFault::Memory => Err(AllocError),
-    }
-}
-
-/// Two constants in one class after some rounds are a result of the goal, unlike running out of memory.
-fn no_world_in_rounds(fault: SaturateFault) -> Result<Answered, NoMemory>
-    ensures { IfOk result (IsNoWorldInRounds fault) }
-{
-    match fault {
-        SaturateFault::NoWorld { class, a, b } => Ok(Answered::NoWorld { class, a, b }),
-        SaturateFault::Memory => Err(AllocError),
-    }
-}
 
 /// Answers one goal of the input.
 pub fn solve_goal<F: Rule>(
@@ -80,11 +59,15 @@ pub(crate) fn solve_by_rules<F: Rule>(
     let goal = &input.goals.as_slice()[at as usize];
     let first = match start(alloc, goal) {
         Ok(graph) => graph,
-        Err(fault) => return no_world_at_start(fault),
+        Err(StartFault::NoWorld { class, a, b }) => return Ok(Answered::NoWorld { class, a, b }),
+        Err(StartFault::Memory) => return Err(AllocError),
     };
     let saturated = match saturate(alloc, first, rules, settings.rounds, settings.nodes) {
         Ok(saturated) => saturated,
-        Err(fault) => return no_world_in_rounds(fault),
+        Err(SaturateFault::NoWorld { class, a, b }) => {
+            return Ok(Answered::NoWorld { class, a, b });
+        }
+        Err(SaturateFault::Memory) => return Err(AllocError),
     };
     let graph = to_launch(alloc, &saturated, goal, input)?;
     let matched = Matched {

@@ -1,8 +1,7 @@
 -- What a step of the search comes to, and what the steps end with.
-use Rattle.std.proofs.Common.{◌≡◌, ℕ, ◌+◌, ◌-◌, ◌≤◌, Bool, List, length, refl, sym, subst, arith, ◌∙◌}
-use Rattle.std.proofs.Common.{Result, Ok, Err}
+use Rattle.std.proofs.Common.{◌≡◌, ℕ, ◌+◌, ◌-◌, ◌≤◌, Bool, List, length, refl, sym, subst, arith}
 use Rattle.std.proofs.lemmas.Bool.{cases_lt}
-use Rattle.std.specs.Prelude.{IfOk, IsPermutation}
+use Rattle.std.specs.Prelude.{IsPermutation}
 use Rattle.std.proofs.lemmas.List.Sorted.{length_permutation}
 use Rattle.std.proofs.Common.{inl, inr}
 use Rattle.schedule_meaning.specs.Limits.{most_cycles}
@@ -16,7 +15,6 @@ use Rattle.cycle_encoding.specs.Faults.{EncodeFaultIs}
 use Rattle.cycle_encoding.specs.CycleFormula.{Scope}
 use Rattle.cycle_encoding.specs.CycleFormula.{listed_in}
 use Rattle.cycle_encoding.specs.Plans.{IsTooLarge, PassesLimit}
-use Rattle.cycle_encoding.specs.declared.plans.EncodeFault.{EncodeFault}
 use Rattle.cycle_encoding.specs.declared.plans.EncodeFault.TheVariants as encode
 use Rattle.denali_run.specs.Encodings.{encoding_for}
 use Rattle.graph_meaning.specs.declared.graphs.LaunchGraph.{LaunchGraph}
@@ -26,11 +24,17 @@ use Rattle.schedule_meaning.specs.declared.schedules.Allocation.{Allocation}
 use Rattle.schedule_meaning.specs.declared.schedules.Launch.{Launch}
 use Rattle.least_launch.specs.FewerLaunches.{IsFewerOf, fewer_in}
 use Rattle.least_launch.specs.Fewest.{IsProof, NoneHasFewer, OfOneFewer}
-use Rattle.least_launch.specs.Steps.{IsLargeStep, IsStep}
+use Rattle.least_launch.specs.Steps.{IsStep}
 use Rattle.least_launch.specs.declared.results.Proof.{Proof}
 use Rattle.least_launch.specs.declared.results.Proof.TheVariants as proofs
 use Rattle.least_launch.specs.declared.searching.Step.{Step}
 use Rattle.least_launch.specs.declared.searching.Step.TheVariants as steps
+
+-- an end whose counts have other names
+pub renamed : (P : Step → Type 0) (v c x y : ℕ) → x ≡ v → y ≡ c → P (steps.Ended (proofs.Size v c))
+    → P (steps.Ended (proofs.Size x y))
+renamed P v c x y e f h =
+    subst (λ n. P (steps.Ended (proofs.Size n y))) (sym e) (subst (λ n. P (steps.Ended (proofs.Size v n))) (sym f) h)
 
 module _ (g : LaunchGraph) (table : Table) (a : Allocation) (k n conflicts : ℕ) (s : Scope)
     (scope : IsScope (encoding_for a) g table s) (few : k ≤ most_cycles) where
@@ -48,23 +52,10 @@ module _ (g : LaunchGraph) (table : Table) (a : Allocation) (k n conflicts : ℕ
     holds = holds;
   }
 
-  pub large_step : (fault : EncodeFault) (step : Step) → EncodeFaultIs (fewer_in s g table k n) fault
-      → IsLargeStep fault step
-      → IsStep g table a k conflicts n step
-  large_step (encode.Size v c) (steps.Ended (proofs.Size vars clauses)) is by =
-      of_one_fewer (λ f. PassesLimit f vars clauses × IsWord vars × IsWord clauses)
-      ((is.0, by.0 ∙ is.1, by.1 ∙ is.2), by.2, by.3)
-  large_step (encode.Size v c) (steps.Ended proofs.None) is by = absurd by
-  large_step (encode.Size v c) (steps.Ended (proofs.Refuted lines)) is by = absurd by
-  large_step (encode.Size v c) (steps.Ended (proofs.Spent lines)) is by = absurd by
-  large_step (encode.Size v c) (steps.Fewer schedule) is by = absurd by
-  large_step encode.Memory step is by = absurd by
-
-  pub large_steps : {E : Type 0} (fault : EncodeFault) (r : Result Step E)
-      → EncodeFaultIs (fewer_in s g table k n) fault
-      → IfOk r (IsLargeStep fault) → IfOk r (IsStep g table a k conflicts n)
-  large_steps fault (Ok step) is by = large_step fault step is by
-  large_steps fault (Err e) is by = tt
+  pub large_step : (vars clauses : ℕ) → EncodeFaultIs (fewer_in s g table k n) (encode.Size vars clauses) → IsWord vars
+      → IsWord clauses → IsStep g table a k conflicts n (steps.Ended (proofs.Size vars clauses))
+  large_step vars clauses is wv wc =
+      of_one_fewer (λ f. PassesLimit f vars clauses × IsWord vars × IsWord clauses) (is, wv, wc)
 
   -- no schedule with at most n launches fits where the clauses have no solution
   pub none_fewer : (f : Formula) → f ≡ fewer_in s g table k n → HaveNoSolution f.clauses

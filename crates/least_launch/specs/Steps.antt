@@ -1,17 +1,13 @@
 -- What the clauses for fewer launches come to, in a step of the search. Source: this project.
-use Rattle.std.specs.Prelude.{◌≡◌, ℕ, ◌+◌, ◌≤◌, List, length}
-use Rattle.cycle_encoding.specs.declared.plans.EncodeFault.{EncodeFault}
-use Rattle.cycle_encoding.specs.declared.plans.EncodeFault.TheVariants as encode
+use Rattle.std.specs.Prelude.{ℕ, ◌+◌, ◌≤◌, List, length}
 use Rattle.graph_meaning.specs.declared.graphs.LaunchGraph.{LaunchGraph}
 use Rattle.machine_table.specs.declared.tables.Table.{Table}
 use Rattle.schedule_meaning.specs.Fits.{Fits}
 use Rattle.schedule_meaning.specs.declared.schedules.Allocation.{Allocation}
 use Rattle.schedule_meaning.specs.declared.schedules.Launch.{Launch}
 use Rattle.schedule_meaning.specs.declared.schedules.Schedule.{Schedule}
-use Rattle.word_ops.specs.Words.{IsWord}
 use Rattle.least_launch.specs.Fewest.{IsProof}
 use Rattle.least_launch.specs.declared.results.Proof.{Proof}
-use Rattle.least_launch.specs.declared.results.Proof.TheVariants as proofs
 use Rattle.least_launch.specs.declared.searching.Step.{Step}
 use Rattle.least_launch.specs.declared.searching.Step.TheVariants as steps
 
@@ -27,9 +23,3 @@ pub record IsStepsEnd (g : LaunchGraph) (table : Table) (a : Allocation) (k conf
   pub fits : Fits g table a k schedule.launches
   pub no_more : length schedule.launches ≤ length given
   pub proof_is : IsProof g table a k conflicts (length schedule.launches) proof
-
--- the counts of a step are those that a fault has, and are words
-abbrev pub IsLargeStep : EncodeFault → Step → Type 0
-IsLargeStep (encode.Size v c) (steps.Ended (proofs.Size vars clauses)) =
-    (vars ≡ v) × (clauses ≡ c) × IsWord vars × IsWord clauses
-IsLargeStep _ _ = ⊥

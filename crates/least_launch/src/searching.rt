@@ -9,7 +9,7 @@ ghost use Rattle.machine_table.specs.Tables.{IsTable};
 ghost use Rattle.register_assign.specs.Assigned.{HaveWords, KeepsWord};
 ghost use Rattle.schedule_meaning.specs.Fits.{Fits};
 ghost use Rattle.least_launch.specs.Fewest.{IsFewest};
-ghost use Rattle.least_launch.specs.Steps.{IsStepsEnd, IsLargeStep, IsStep};
+ghost use Rattle.least_launch.specs.Steps.{IsStepsEnd, IsStep};
 
 use crate::encoding::build_fewer;
 use crate::laws::fewer_clauses_say_fits;
@@ -34,16 +34,6 @@ use std::alloc::{AllocError, Global};
 pub(crate) enum Step {
     Fewer(Schedule),
     Ended(Proof),
-}
-
-/// Clauses that are too large end the steps, unlike running out of memory.
-fn too_large(fault: EncodeFault) -> Result<Step, NoMemory>
-    ensures { IfOk result (IsLargeStep fault) }
-{
-    match fault {
-        EncodeFault::Size { vars, clauses } => Ok(Step::Ended(Proof::Size { vars, clauses })),
-        EncodeFault::Memory => Err(AllocError),
-    }
 }
 
 /// A score for each variable of a formula: 1 for those of a schedule's launches, and 0 for every other. It looks at
@@ -85,7 +75,10 @@ fn try_fewer<F: Rule>(
     fewer_clauses_say_fits();
     let encoded = match build_fewer(alloc, facts, table, scope, k, n) {
         Ok(encoded) => encoded,
-        Err(fault) => return too_large(fault),
+        Err(EncodeFault::Size { vars, clauses }) => {
+            return Ok(Step::Ended(Proof::Size { vars, clauses }));
+        }
+        Err(EncodeFault::Memory) => return Err(AllocError),
     };
     let scores = scores_of(alloc, &encoded, schedule)?;
     match solve_from(alloc, &encoded.cnf, picker, conflicts, &scores)? {

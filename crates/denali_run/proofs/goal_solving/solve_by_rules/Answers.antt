@@ -1,17 +1,20 @@
-use Rattle.std.proofs.Common.{refl, subst, Contains, length, map}
+use Rattle.std.proofs.Common.{refl, subst, Contains, length, map, rules, ◌≡◌, ℕ, Ok, Some, slice_get}
 use Rattle.std.proofs.lemmas.List.Elements.{All-contains}
 use Rattle.axiom_base.specs.Schemes.{AddedRules}
 use Rattle.goal_meaning.specs.Names.{declared_name}
-use Rattle.goal_meaning.specs.Views.{goal_view, input_view}
+use Rattle.goal_meaning.specs.Views.{GoalTree, goal_view, input_view}
 use Rattle.goal_meaning.specs.WellFormed.{IsGoal}
-use Rattle.saturation.specs.AtStart.{most_rows_at_start}
+use Rattle.saturation.specs.AtStart.{IsHopelessAtStart, StartFaultIs, StartNamesLowClass, most_rows_at_start}
 use Rattle.saturation.specs.Launched.{row_in}
 use Rattle.saturation.specs.GoalTerms.{assumed_pairs, kept_terms, present_terms, rules_of}
 use Rattle.saturation.specs.GraphStands.{GraphStands}
-use Rattle.saturation.specs.Rounds.{IsHopeless, IsSaturated, KeepsStanding, SaturateFaultIs}
+use Rattle.saturation.specs.Rounds.{IsHopeless, IsSaturated, KeepsStanding, RoundsNameLowClass, SaturateFaultIs}
+use Rattle.saturation.specs.declared.faults.SaturateFault.TheVariants as faults
+use Rattle.denali_run.specs.Right.{Right}
+use Rattle.denali_run.specs.declared.results.Answered.TheVariants.{NoWorld}
 use Rattle.denali_run.specs.declared.results.Matched.{Matched}
 use Rattle.saturation.specs.StandsFor.{StandsFor}
-use Rattle.denali_run.proofs.WorkedGoals.{RulesAreTrue, few_rows, for_the_goal, found_of, grown_after, is_one, launched_few, matched_is, rounds_refused, start_refused, there}
+use Rattle.denali_run.proofs.WorkedGoals.{RulesAreTrue, at_start, few_rows, for_the_goal, found_of, grown_after, in_rounds, is_one, launched_few, matched_is, renamed, there}
 use Rattle.denali_run.proofs.goal_solving.solve_by_rules.Goals as goal
 
 pub start-requires : goal.start-requires
@@ -26,42 +29,53 @@ start-requires g c =
       );
     }
 
-pub returns-in-Err : goal.returns-in-Err
-returns-in-Err g c =
-    let input = input_view c.args.input.now in
-    let goals = c.args.input.now.goals in
-    let goal = c.index-as_slice-at.result in
-    let rules_true : RulesAreTrue c.args.settings.now.library (input_view c.args.input.now) (goal_view c.index-as_slice-at.result) =
-    λ world is holds. c.axioms_make_rules_true.ensures.true_rules c.args.settings.now.library input (goal_view goal) world c.requires.input holds in
-    record {
-      right = for_the_goal input c.args.settings.now c.args.at (goal_view goal)
-          (there goals c.as_slice.result.now c.args.at goal c.as_slice.ensures c.requires.at c.index-as_slice-at.is)
-          c.no_world_at_start.result
-          (start_refused input (goal_view goal) c.args.settings.now rules_true c.in-Err.fault c.no_world_at_start.result
-          c.in-Err.ensures.fault c.in-Err.ensures.hopeless c.in-Err.ensures.low c.no_world_at_start.ensures);
-    }
-
-pub returns-in-Err-saturate : goal.returns-in-Err-saturate
-returns-in-Err-saturate g c =
+pub returns-in-Err-NoWorld : goal.returns-in-Err-NoWorld
+returns-in-Err-NoWorld g c =
     let input = input_view c.args.input.now in
     let goals = c.args.input.now.goals in
     let goal = c.index-as_slice-at.result in
     let s = c.args.settings.now in
+    let fault = c.in-Err-NoWorld in
+    let rules_true : RulesAreTrue c.args.settings.now.library (input_view c.args.input.now) (goal_view c.index-as_slice-at.result) =
+    λ world is holds. c.axioms_make_rules_true.ensures.true_rules c.args.settings.now.library input (goal_view goal) world c.requires.input holds in
+    let answered = NoWorld fault.class fault.a fault.b in
+    record {
+      right = renamed (λ answered. (goal : GoalTree) → slice_get input.goals c.args.at ≡ Some goal → Right input goal s answered)
+          _ _ _ _ _ _ fault.class-is fault.a-is fault.b-is
+          (for_the_goal input s c.args.at (goal_view goal)
+          (there goals c.as_slice.result.now c.args.at goal c.as_slice.ensures c.requires.at c.index-as_slice-at.is)
+          {E = ℕ} (Ok answered)
+          (at_start input (goal_view goal) s rules_true fault.class fault.a fault.b
+          (subst (StartFaultIs (goal_view goal)) fault.field-0-is fault.ensures.fault)
+          (subst (IsHopelessAtStart (goal_view goal)) fault.field-0-is fault.ensures.hopeless)
+          (subst StartNamesLowClass fault.field-0-is fault.ensures.low) (search rules) (search rules)));
+    }
+
+pub returns-in-Err-NoWorld-saturate : goal.returns-in-Err-NoWorld-saturate
+returns-in-Err-NoWorld-saturate g c =
+    let input = input_view c.args.input.now in
+    let goals = c.args.input.now.goals in
+    let goal = c.index-as_slice-at.result in
+    let s = c.args.settings.now in
+    let fault = c.in-Err-NoWorld-saturate in
     let rules_true : RulesAreTrue c.args.settings.now.library (input_view c.args.input.now) (goal_view c.index-as_slice-at.result) =
     λ world is holds. c.axioms_make_rules_true.ensures.true_rules c.args.settings.now.library input (goal_view goal) world c.requires.input holds in
     let at_rules : (F : AddedRules → Type 0) → F c.args.rules.now
     → F (rules_of c.args.settings.now.library (input_view c.args.input.now)) = λ F h. subst F c.requires.rules h in
+    let answered = NoWorld fault.class fault.a fault.b in
     record {
-      right = for_the_goal input s c.args.at (goal_view goal)
+      right = renamed (λ answered. (goal : GoalTree) → slice_get input.goals c.args.at ≡ Some goal → Right input goal s answered)
+          _ _ _ _ _ _ fault.class-is fault.a-is fault.b-is
+          (for_the_goal input s c.args.at (goal_view goal)
           (there goals c.as_slice.result.now c.args.at goal c.as_slice.ensures c.requires.at c.index-as_slice-at.is)
-          c.no_world_in_rounds.result
-          (rounds_refused input (goal_view goal) s rules_true c.in-Ok.graph (c.in-Ok.ensures.grown (rules_of s.library input))
-          (c.in-Ok.ensures.stands (declared_name c.args.input.now.ops) (rules_of s.library input)) c.in-Err-saturate.fault
-          c.no_world_in_rounds.result
-          (at_rules (λ rs. SaturateFaultIs rs c.in-Ok.graph s.rounds s.nodes c.in-Err-saturate.fault)
-          c.in-Err-saturate.ensures.fault)
-          (at_rules (λ rs. IsHopeless rs c.in-Ok.graph c.in-Err-saturate.fault) c.in-Err-saturate.ensures.hopeless)
-          c.in-Err-saturate.ensures.low c.no_world_in_rounds.ensures);
+          {E = ℕ} (Ok answered)
+          (in_rounds input (goal_view goal) s rules_true c.in-Ok.graph (c.in-Ok.ensures.grown (rules_of s.library input))
+          (c.in-Ok.ensures.stands (declared_name c.args.input.now.ops) (rules_of s.library input)) fault.class fault.a fault.b
+          (at_rules (λ rs. SaturateFaultIs rs c.in-Ok.graph s.rounds s.nodes (faults.NoWorld fault.class fault.a fault.b))
+          (subst (SaturateFaultIs c.args.rules.now c.in-Ok.graph s.rounds s.nodes) fault.field-0-is fault.ensures.fault))
+          (at_rules (λ rs. IsHopeless rs c.in-Ok.graph (faults.NoWorld fault.class fault.a fault.b))
+          (subst (IsHopeless c.args.rules.now c.in-Ok.graph) fault.field-0-is fault.ensures.hopeless))
+          (subst RoundsNameLowClass fault.field-0-is fault.ensures.low) (search rules) (search rules)));
     }
 
 pub to_launch-requires : goal.to_launch-requires

@@ -1,21 +1,28 @@
-use Rattle.std.proofs.Common.{subst}
+use Rattle.std.proofs.Common.{rules, subst}
 use Rattle.std.specs.Prelude.{IsPermutation}
 use Rattle.cnf_core.specs.Formula.{Formula, Satisfies, assigned}
 use Rattle.cnf_core.specs.Outcome.{IsRefuted as IsRefutedFormula, IsSolved, IsSpent as IsSpentFormula}
 use Rattle.cycle_encoding.specs.CycleFormula.{allocation_in, listed_in}
 use Rattle.cycle_encoding.specs.Plans.{Plan}
 use Rattle.cycle_encoding.specs.Shapes.{numbered, shown}
+use Rattle.cycle_encoding.specs.Faults.{EncodeFaultIs}
 use Rattle.denali_run.specs.Encodings.{encoding_for}
+use Rattle.least_launch.specs.FewerLaunches.{fewer_in}
+use Rattle.least_launch.specs.Steps.{IsStep}
 use Rattle.denali_run.proofs.RisingCycles.{own_scope}
 use Rattle.sat_core.specs.Verdicts.{IfRefuted, IfSat, IfSpent}
-use Rattle.least_launch.proofs.Searched.{fewer_step, large_steps, none_fewer, refuted_step, spent_step}
+use Rattle.least_launch.proofs.Searched.{fewer_step, large_step, none_fewer, refuted_step, renamed, spent_step}
 use Rattle.least_launch.proofs.searching.try_fewer.Goals as goal
 
-pub returns-in-Err : goal.returns-in-Err
-returns-in-Err g c =
-    large_steps c.args.facts.now c.args.table.now (allocation_in c.args.scope.now) c.args.k c.args.n c.args.conflicts
-    c.args.scope.now c.requires.scope c.requires.cycles c.in-Err.fault c.too_large.result c.in-Err.ensures.size
-    c.too_large.ensures
+pub returns-in-Err-Size : goal.returns-in-Err-Size
+returns-in-Err-Size g c =
+    let fault = c.in-Err-Size in
+    renamed (IsStep c.args.facts.now c.args.table.now (allocation_in c.args.scope.now) c.args.k c.args.conflicts c.args.n)
+    _ _ _ _ fault.vars-is fault.clauses-is
+    (large_step c.args.facts.now c.args.table.now (allocation_in c.args.scope.now) c.args.k c.args.n c.args.conflicts
+    c.args.scope.now c.requires.scope c.requires.cycles fault.vars fault.clauses
+    (subst (EncodeFaultIs (fewer_in c.args.scope.now c.args.facts.now c.args.table.now c.args.k c.args.n)) fault.field-0-is
+    fault.ensures.size) (search rules) (search rules))
 
 pub returns-in-Sat : goal.returns-in-Sat
 returns-in-Sat g c =
