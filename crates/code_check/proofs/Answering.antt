@@ -21,22 +21,17 @@ use Rattle.goal_meaning.specs.WellFormed.{AreLets, IsGoal, IsGoalTerm, IsTarget,
 use Rattle.goal_meaning.specs.declared.goals.DeclaredOp.{DeclaredOp}
 use Rattle.goal_meaning.specs.declared.goals.Goal.{Goal}
 use Rattle.goal_meaning.specs.declared.goals.InputReg.{InputReg}
-use Rattle.saturation.specs.AtStart.{IsHopelessAtStart, StartFaultIs, StartNamesLowClass, most_rows_at_start}
-use Rattle.saturation.specs.GoalTerms.{entry_term, guard_terms, input_terms, kept_terms, rules_of, set_terms}
-use Rattle.saturation.specs.Rounds.{IsHopeless, IsImpossible, RoundsNameLowClass, SaturateFaultIs}
-use Rattle.saturation.specs.declared.faults.SaturateFault.{SaturateFault}
-use Rattle.saturation.specs.declared.faults.SaturateFault.TheVariants as round_faults
-use Rattle.saturation.specs.declared.faults.StartFault.{StartFault}
-use Rattle.saturation.specs.declared.faults.StartFault.TheVariants as start_faults
+use Rattle.saturation.specs.AtStart.{most_rows_at_start}
+use Rattle.saturation.specs.GoalTerms.{entry_term, guard_terms, input_terms, kept_terms, set_terms}
 use Rattle.graph_meaning.specs.declared.stops.Stop.{Stop}
-use Rattle.code_check.specs.Answers.{IsAnswerOf, IsGoalBelow, IsNoWorldAtStart, IsNoWorldInRounds}
+use Rattle.code_check.specs.Answers.{IsAnswerOf, IsGoalBelow}
 use Rattle.code_check.specs.Outcomes.{DoesGoal}
 use Rattle.code_check.specs.Same.{IsFirstDifferent, Same}
-use Rattle.code_check.specs.Verified.{HasNoWorld, IsCompared, IsRightFor, IsVerified}
+use Rattle.code_check.specs.Verified.{IsCompared, IsRightFor, IsVerified}
 use Rattle.code_check.specs.declared.codes.Code.{Code}
 use Rattle.code_check.specs.declared.codes.Part.{Part}
 use Rattle.code_check.specs.declared.codes.Verified.{Verified}
-use Rattle.code_check.specs.declared.codes.Verified.TheVariants.{Yes, Unknown, NoWorld}
+use Rattle.code_check.specs.declared.codes.Verified.TheVariants.{NoWorld}
 use Rattle.code_check.proofs.Sorting.{sort_below}
 
 -- ---- the instructions of words are one list
@@ -132,14 +127,13 @@ as_many goal g lets zip =
     let each : length (let_values goal.lets) ≡ length goal.lets = length-map goal.lets (λ (l : LetTree). l.value) in
     omega (arith, long, terms, each)
 
--- ---- answers for each input
+-- ---- an answer whose class and constants have other names
 
-pub for_inputs :
-    {E : Type 0} (r : Result Verified E) (A : InputTree → Type 0) (B : Library → InputTree → Type 0) (C : InputTree → Type 0) (Q : Library → InputTree → Verified → Type 0) →
-    ((library : Library) (input : InputTree) → A input → B library input → C input → IfOk r (Q library input)) →
-    IfOk r (λ answer. (library : Library) (input : InputTree) → A input → B library input → C input → Q library input answer)
-for_inputs (Ok x) A B C Q h = h
-for_inputs (Err e) A B C Q h = tt
+pub renamed : (P : Verified → Type 0) (class a b c x y : ℕ) → c ≡ class → x ≡ a → y ≡ b → P (NoWorld class a b) → P (NoWorld c x y)
+renamed P class a b c x y e f g h =
+    subst (λ n. P (NoWorld n x y)) (sym e) (subst (λ n. P (NoWorld class n y)) (sym f) (subst (λ n. P (NoWorld class a n)) (sym g) h))
+
+-- ---- answers for each library
 
 pub for_libraries :
     {E : Type 0} (r : Result Verified E) (A : Library → Type 0) (Q : Library → Verified → Type 0) →
@@ -169,55 +163,6 @@ module _ (input : InputTree) (code : Code) (rounds nodes : ℕ) (library : Libra
     for_the_code (Ok x) h = λ others is.
         subst (λ js. IsVerified input goal js code rounds nodes library x) (map_same instrs others (sym decode ∙ is)) h
     for_the_code (Err e) h = tt
-
-    named : (a b x y : ℕ) → x ≡ a → y ≡ b → HasNoWorld input goal instrs rounds nodes library a b → HasNoWorld input goal instrs rounds nodes library x y
-    named a b x y e f h = subst (λ n. HasNoWorld input goal instrs rounds nodes library n y) (sym e) (subst (HasNoWorld input goal instrs rounds nodes library a) (sym f) h)
-
-    low_class : (class c : ℕ) → class < 2 ^ 31 → c ≡ class → c < 2 ^ 31
-    low_class class c low e = omega (arith, low, e)
-
-    -- a refusal of the start
-    module _ (nowhere : (class a b : ℕ) → StartFaultIs goal (start_faults.NoWorld class a b) → IsHopelessAtStart goal (start_faults.NoWorld class a b) → HasNoWorld input goal instrs rounds nodes library a b) where
-      at_start : (fault : StartFault) (answer : Verified) → StartFaultIs goal fault → IsHopelessAtStart goal fault → StartNamesLowClass fault → IsNoWorldAtStart fault answer → IsVerified input goal instrs code rounds nodes library answer
-      at_start (start_faults.NoWorld class a b) (NoWorld c x y) h hopeless low e = (named a b x y e.1 e.2 (nowhere class a b h hopeless), low_class class c low e.0)
-      at_start (start_faults.NoWorld class a b) Yes h hopeless low e = absurd e
-      at_start (start_faults.NoWorld class a b) (Unknown j stop part) h hopeless low e = absurd e
-      at_start start_faults.Memory answer h hopeless low e = absurd e
-
-      pub start_refused :
-          {E : Type 0} (fault : StartFault) (r : Result Verified E) →
-          StartFaultIs goal fault →
-          IsHopelessAtStart goal fault →
-          StartNamesLowClass fault →
-          IfOk r (IsNoWorldAtStart fault) →
-          IfOk r (IsVerified input goal instrs code rounds nodes library)
-      start_refused fault (Ok x) h hopeless low e = at_start fault x h hopeless low e
-      start_refused fault (Err x) h hopeless low e = tt
-
-    -- a refusal of the rounds
-    module _ (graph : Graph Op)
-        (nowhere : (class a b : ℕ) → IsImpossible (rules_of library input) graph rounds nodes a b → IsHopeless (rules_of library input) graph (round_faults.NoWorld class a b) → HasNoWorld input goal instrs rounds nodes library a b) where
-      in_rounds :
-          (fault : SaturateFault) (answer : Verified) →
-          SaturateFaultIs (rules_of library input) graph rounds nodes fault →
-          IsHopeless (rules_of library input) graph fault →
-          RoundsNameLowClass fault →
-          IsNoWorldInRounds fault answer →
-          IsVerified input goal instrs code rounds nodes library answer
-      in_rounds (round_faults.NoWorld class a b) (NoWorld c x y) h hopeless low e = (named a b x y e.1 e.2 (nowhere class a b h hopeless), low_class class c low e.0)
-      in_rounds (round_faults.NoWorld class a b) Yes h hopeless low e = absurd e
-      in_rounds (round_faults.NoWorld class a b) (Unknown j stop part) h hopeless low e = absurd e
-      in_rounds round_faults.Memory answer h hopeless low e = absurd e
-
-      pub rounds_refused :
-          {E : Type 0} (fault : SaturateFault) (r : Result Verified E) →
-          SaturateFaultIs (rules_of library input) graph rounds nodes fault →
-          IsHopeless (rules_of library input) graph fault →
-          RoundsNameLowClass fault →
-          IfOk r (IsNoWorldInRounds fault) →
-          IfOk r (IsVerified input goal instrs code rounds nodes library)
-      rounds_refused fault (Ok x) h hopeless low e = in_rounds fault x h hopeless low e
-      rounds_refused fault (Err x) h hopeless low e = tt
 
     -- what the comparison gives
     module _ (g : Graph Op) (j : ℕ) (stop : Stop) (compared : IsCompared input goal instrs rounds nodes library g j stop)

@@ -168,26 +168,10 @@ module _ (text : List ℕ) (sexps : List Sexp) (has : TextHasTrees text (sexp_tr
       in_codes (sexp_trees sexps) input has (subst (λ t. Reads t input) (sym bytes_same) reads)
       (subst (λ (fs : List Form). IsFirst (IsCodesFault input.goals (length text) fs) place kind) (sym forms_same) f)
 
-  pub none_of_codes : (input : InputTree) → ((place : ℕ) (kind : Kind) → IsCodesFault input.goals (length text) (from_codes (sexp_forms text sexps)) place kind → ⊥)
-      → (place : ℕ) (kind : Kind) → IsCodesFault input.goals (length text) (code_forms text (sexp_trees sexps)) place kind → ⊥
-  none_of_codes input clear place kind f = clear place kind (subst (λ (fs : List Form). IsCodesFault input.goals (length text) fs place kind) forms_same f)
-
 pub all_read : {E : Type 0} (r : Result Checked E) (text : List ℕ) (sexps : List Sexp) → TextHasTrees text (sexp_trees sexps)
     → IfOk r (λ checked. WritesForms text (sexp_forms text sexps) (checked_view checked)) → IfOk r (λ checked. ReadsCodes text (checked_view checked))
 all_read (Ok x) text sexps has h = written_reads text sexps has (checked_view x) h
 all_read (Err e) text sexps has h = tt
-
-module _ (text : List ℕ) (one_forest : (trees others : SexpTrees) → TextHasTrees text trees → TextHasTrees text others → trees ≡ others)
-    (apart : (trees : SexpTrees) (place : ℕ) (kind : Kind) → TextHasTrees text trees → IsFirstReadFault text place kind → ⊥)
-    (once : (t : List ℕ) (input other : InputTree) → Reads t input → Reads t other → input ≡ other)
-    (no_fault : (t : List ℕ) (input : InputTree) (place : ℕ) (kind : Kind) → Reads t input → IsFirstTextFault t place kind → ⊥) where
-  pub all_clear : {E : Type 0} (r : Result Checked E) (sexps : List Sexp) → TextHasTrees text (sexp_trees sexps)
-      → IfOk r (λ checked. WritesForms text (sexp_forms text sexps) (checked_view checked))
-      → IfOk r (λ checked. (place : ℕ) (kind : Kind) → IsCodesFault (input_view checked.input).goals (length text) (from_codes (sexp_forms text sexps)) place kind → ⊥)
-      → IfOk r (λ _. (place : ℕ) (kind : Kind) → IsFirstCodesFault text place kind → ⊥)
-  all_clear (Ok x) sexps has h clear =
-      text_clear text one_forest apart once no_fault (sexp_trees sexps) (input_view x.input) has (goals_read text sexps has (checked_view x) h) (none_of_codes text sexps has (input_view x.input) clear)
-  all_clear (Err e) sexps has h clear = tt
 
 pub well_formed_is : ((t : List ℕ) (input : InputTree) → length t < 2 ^ 29 → Reads t input → IsInput input) → (text : List ℕ) (n : ℕ) → length text < 2 ^ 29 → (input : InputTree) → Reads (take n text) input → IsInput input
 well_formed_is well_formed text n small input reads = well_formed (take n text) input (let l = take_short n text in omega (arith, l, small)) reads

@@ -15,7 +15,6 @@ use Rattle.pattern_match.specs.Classes.{IsClass}
 use Rattle.alpha_encode.specs.declared.instructions.Instr.{Instr}
 use Rattle.saturation.specs.Trace.{AreInserted, IsBuilt, IsPut}
 use Rattle.code_check.specs.Terms.{TermState, address_at, alignment, place_term, terms_written, term_step, terms_at_entry, unless_zero_register, with_memory, with_term}
-use Rattle.code_check.specs.declared.inserting.Accessed.{Accessed}
 
 -- the term has the class, which is of the sort
 pub record HasClassOfSort (g : Graph Op) (sort : Sort) (t : Tree Op) (c : ℕ) : Type 0 where
@@ -65,11 +64,6 @@ abbrev pub AreAddresses : Graph Op → List Instr → TermState → List (Option
 AreAddresses g [] ts [] = Unit {0}
 AreAddresses g (i ∷ is) ts (a ∷ addresses) = IsAddress g i ts a × AreAddresses g is (term_step i ts) addresses
 AreAddresses g _ ts _ = ⊥
-
--- the term that a load or a store gives was inserted, and these are its class and that of the address
-pub record IsAccessed (old : Graph Op) (sort : Sort) (t address : Tree Op) (a : Accessed) (new : Graph Op) : Type 0 where
-  pub built : IsTermInserted old sort t a.class new
-  pub address_is : IsClass new [] address a.address
 
 -- the class of a load's address; a load to register 31 has none
 abbrev pub IsLoadAddress : Graph Op → ℕ → Tree Op → Option ℕ → Type 0

@@ -1,6 +1,6 @@
 // The terms of words, inserted into the graph of a goal's start. A class is kept for each register that was written, so a
 // word costs few rows however large its term is.
-ghost use Rattle.std.specs.Prelude.{◌≡◌, ℕ, ◌+◌, ◌<◌, ◌≤◌, ◌^◌, [], length, map, set, List, ◌*◌, Some, IfOk, OnOk};
+ghost use Rattle.std.specs.Prelude.{◌≡◌, ℕ, ◌+◌, ◌<◌, ◌≤◌, ◌^◌, [], length, map, List, ◌*◌, Some, IfOk, OnOk};
 ghost use Rattle.word_ops.specs.Meanings.{arity_of_op, operand_sort};
 ghost use Rattle.word_ops.specs.declared.sorts.Sort.TheVariants as sorts;
 ghost use Rattle.word_terms.specs.Keys.{op_signature};
@@ -10,9 +10,9 @@ ghost use Rattle.alpha_encode.specs.Decoded.{decoded};
 ghost use Rattle.alpha_encode.specs.declared.instructions.Instr.{Instr as Instruction};
 ghost use Rattle.alpha_encode.specs.Formats.{IsSecond, IsWellFormed};
 ghost use Rattle.code_check.specs.Terms.{TermState, address_at, operate_term, second_term, terms_from, terms_written_from};
-ghost use Rattle.word_terms.specs.Building.{constant, read_of, written_of, w2};
+ghost use Rattle.word_terms.specs.Building.{constant, w2};
 ghost use Rattle.word_ops.specs.Operators.{arity_of};
-ghost use Rattle.code_check.specs.Classes.{AreAddresses, AreClassesOf, AreClassesOfSome, InsertsWritten, IsAccessed, IsLoaded, IsRowInserted, IsStored, IsTermInserted};
+ghost use Rattle.code_check.specs.Classes.{AreAddresses, AreClassesOf, AreClassesOfSome, InsertsWritten, IsLoaded, IsRowInserted, IsStored, IsTermInserted};
 
 use alpha_encode::{Instr, Second, decode};
 use egraph::{Egraph, classes_have_one_sort};
@@ -145,73 +145,6 @@ fn address_class(
     displaced_class(graph, classes, WordOp::Lda, rb, n)
 }
 
-/// The classes of an address, and of what a load reads or a store leaves there.
-#[derive(Clone, Copy)]
-struct Accessed {
-    address: u32,
-    class: u32,
-}
-
-/// The class of what a load gives, and that of its address.
-fn load_class(
-    graph: &mut Egraph<Op>,
-    classes: &[Option<u32>],
-    access: Access,
-    memory: u32,
-    rb: u8,
-    n: u64,
-) -> Result<Accessed, NoMemory>
-    requires rb { rb < 32 }
-    requires count { length classes.now ≡ 32 }
-    requires terms { AreClassesOfSome graph.old classes.now memory }
-    requires few { length graph.old.current + 4 ≤ 2 ^ 31 }
-    ensures built { IfOk result (λ a. (ts : TermState) → AreClassesOf graph.old classes.now memory ts →
-        IsAccessed graph.old sorts.Word (read_of access ts.memory (address_at (ts.registers rb) n)) (address_at (ts.registers rb) n)
-        a graph.new) }
-    ensures few { OnOk result (length graph.new.current ≤ length graph.old.current + 4) }
-{
-    more_terms_may_be_inserted();
-    let address = address_class(graph, classes, rb, n)?;
-    let class = insert_row(graph, Op::Select(access), &[memory, address])?;
-    Ok(Accessed { address, class })
-}
-
-/// The class of the memory after a store, and that of its address.
-fn store_class(
-    graph: &mut Egraph<Op>,
-    classes: &[Option<u32>],
-    access: Access,
-    memory: u32,
-    ra: u8,
-    rb: u8,
-    n: u64,
-) -> Result<Accessed, NoMemory>
-    requires ra { ra < 32 }
-    requires rb { rb < 32 }
-    requires count { length classes.now ≡ 32 }
-    requires terms { AreClassesOfSome graph.old classes.now memory }
-    requires few { length graph.old.current + 5 ≤ 2 ^ 31 }
-    ensures built { IfOk result (λ a. (ts : TermState) → AreClassesOf graph.old classes.now memory ts →
-        IsAccessed graph.old sorts.Memory (written_of access ts.memory (address_at (ts.registers rb) n) (ts.registers ra))
-        (address_at (ts.registers rb) n) a graph.new) }
-    ensures few { OnOk result (length graph.new.current ≤ length graph.old.current + 5) }
-{
-    more_terms_may_be_inserted();
-    let address = address_class(graph, classes, rb, n)?;
-    let value = register_class(graph, classes, ra)?;
-    let class = insert_row(graph, Op::Store(access), &[memory, address, value])?;
-    Ok(Accessed { address, class })
-}
-
-/// The class of what the register holds from now on.
-fn write_register(classes: &mut [Option<u32>], register: u8, class: u32)
-    requires register { register < 32 }
-    requires count { length classes.old ≡ 32 }
-    ensures { classes.new ≡ set classes.old register (Some class) }
-{
-    classes[register as usize] = Some(class);
-}
-
 /// Inserts what a load to a register other than 31 writes, where n is the word of its displacement. It gives the class of the load's address.
 fn insert_load(
     graph: &mut Egraph<Op>,
@@ -235,9 +168,10 @@ fn insert_load(
     if ra == 31 {
         return Ok(None);
     }
-    let loaded = load_class(graph, classes, access, memory, rb, n)?;
-    write_register(classes, ra, loaded.class);
-    Ok(Some(loaded.address))
+    let address = address_class(graph, classes, rb, n)?;
+    let class = insert_row(graph, Op::Select(access), &[memory, address])?;
+    classes[ra as usize] = Some(class);
+    Ok(Some(address))
 }
 
 /// Inserts the memory that a store leaves, where n is the word of its displacement. It gives the class of the store's address.
@@ -260,9 +194,11 @@ fn insert_store(
     ensures few { OnOk result (length graph.new.current ≤ length graph.old.current + 5) }
 {
     more_terms_may_be_inserted();
-    let stored = store_class(graph, classes, access, *memory, ra, rb, n)?;
-    *memory = stored.class;
-    Ok(stored.address)
+    let address = address_class(graph, classes, rb, n)?;
+    let value = register_class(graph, classes, ra)?;
+    let class = insert_row(graph, Op::Store(access), &[*memory, address, value])?;
+    *memory = class;
+    Ok(address)
 }
 
 /// Inserts the term that the word's instruction gives, where it writes a register other than 31 or memory. It gives the
@@ -285,21 +221,21 @@ fn insert_instr(
         Instr::Operate { op, ra, second, rc } => {
             if rc != 31 {
                 let class = operate_class(graph, classes, op, ra, second)?;
-                write_register(classes, rc, class);
+                classes[rc as usize] = Some(class);
             }
         }
         Instr::Lda { ra, rb, disp } => {
             if ra != 31 {
                 let n = i64::from(disp).cast_unsigned();
                 let class = displaced_class(graph, classes, WordOp::Lda, rb, n)?;
-                write_register(classes, ra, class);
+                classes[ra as usize] = Some(class);
             }
         }
         Instr::Ldah { ra, rb, disp } => {
             if ra != 31 {
                 let n = i64::from(disp).cast_unsigned();
                 let class = displaced_class(graph, classes, WordOp::Ldah, rb, n)?;
-                write_register(classes, ra, class);
+                classes[ra as usize] = Some(class);
             }
         }
         Instr::Load {

@@ -1,6 +1,5 @@
 // Reading the registers in which a code leaves the targets.
-ghost use Rattle.std.specs.Prelude.{◌≡◌, ◌<◌, ◌^◌, ℕ, List, All, bytes_eq, codes, length, map, false, Option, None, Some, IfOk, IfErr, MatchOption};
-ghost use Rattle.std.specs.Option.{option_map_or};
+ghost use Rattle.std.specs.Prelude.{◌≡◌, ◌<◌, ◌^◌, ℕ, List, All, codes, length, map, false, Option, None, Some, IfOk, IfErr, MatchOption};
 ghost use Rattle.text_core.specs.Faults.{IsFaultBy};
 ghost use Rattle.text_core.specs.Names.{is_among};
 ghost use Rattle.forms.specs.Forms.{sexp_form, sexp_forms};
@@ -24,13 +23,6 @@ use items::Items;
 use std::alloc::Global;
 use text_core::{Kind, Sexp, TextFault};
 
-/// Whether the target is a word and has the name.
-fn is_word_named(set: &Set, name: &[u8]) -> bool
-    ensures { result ≡ roles.is_word_named name.now (target_view set.now) }
-{
-    !is_memory_set(set) && set.name.bytes() == name
-}
-
 /// The number of the target of this name that is a word.
 fn word_target(sets: &[Set], name: &[u8]) -> Option<u32>
     requires few { length sets.now < 2 ^ 32 }
@@ -38,7 +30,8 @@ fn word_target(sets: &[Set], name: &[u8]) -> Option<u32>
         (IsFoundAt (word_named (map target_view sets.now) name.now) (map target_view sets.now)) }
 {
     for number in 0..sets.len() {
-        if is_word_named(&sets[number], name) {
+        let set = &sets[number];
+        if !is_memory_set(set) && set.name.bytes() == name {
             return Some(number as u32);
         }
     }
@@ -64,34 +57,17 @@ fn named_target<'a>(form: &Sexp, text: &'a [u8]) -> Option<&'a [u8]>
     name(&parts[1], text)
 }
 
-fn names(form: &Sexp, text: &[u8], name: &[u8]) -> bool
-    requires of { IsSexpOf text.now form.now }
-    ensures { result ≡ option_map_or (λ other. bytes_eq other name.now) (target_in (sexp_form text.now form.now)) false }
-{
-    match named_target(form, text) {
-        Some(other) => other == name,
-        None => false,
-    }
-}
-
 /// Whether some list of a place has the name.
 fn is_named(forms: &[Sexp], text: &[u8], name: &[u8]) -> bool
     requires of { All (IsSexpOf text.now) forms.now }
     ensures { result ≡ is_among (targets_named (sexp_forms text.now forms.now)) name.now }
 {
     for form in forms {
-        if names(form, text, name) {
+        if named_target(form, text) == Some(name) {
             return true;
         }
     }
     false
-}
-
-fn has_no_place(set: &Set, forms: &[Sexp], text: &[u8]) -> bool
-    requires of { All (IsSexpOf text.now) forms.now }
-    ensures { result ≡ roles.has_no_place (sexp_forms text.now forms.now) (target_view set.now) }
-{
-    !is_memory_set(set) && !is_named(forms, text, set.name.bytes())
 }
 
 /// Whether some target that is a word has no place.
@@ -100,7 +76,7 @@ pub(crate) fn lacks_place(sets: &[Set], forms: &[Sexp], text: &[u8]) -> bool
     ensures { result ≡ roles.lacks_place (map target_view sets.now) (sexp_forms text.now forms.now) }
 {
     for set in sets {
-        if has_no_place(set, forms, text) {
+        if !is_memory_set(set) && !is_named(forms, text, set.name.bytes()) {
             return true;
         }
     }
@@ -130,15 +106,6 @@ fn fresh_target(form: &Sexp, text: &[u8], sets: &[Set], before: &[Sexp]) -> Resu
     Ok(set)
 }
 
-fn is_other(pin: Option<u8>, register: u8) -> bool
-    ensures { result ≡ rules.is_other pin register }
-{
-    match pin {
-        Some(pin) => pin != register,
-        None => false,
-    }
-}
-
 /// A register from 0 to 30, which is the pin where there is one.
 fn place_register(form: &Sexp, text: &[u8], pin: Option<u8>) -> Result<u8, TextFault>
     requires of { IsSexpOf text.now form.now }
@@ -153,10 +120,10 @@ fn place_register(form: &Sexp, text: &[u8], pin: Option<u8>) -> Result<u8, TextF
     let Some(number) = register_number(bytes) else {
         return Err(at(place(form), Kind::BadRegister));
     };
-    if is_other(pin, number) {
-        return Err(at(place(form), Kind::BadRegister));
+    match pin {
+        Some(pin) if pin != number => Err(at(place(form), Kind::BadRegister)),
+        _ => Ok(number),
     }
-    Ok(number)
 }
 
 /// Reads `( at NAME REGISTER )`, behind other places.

@@ -1,5 +1,5 @@
 // Reading a text of goals and of codes for them.
-ghost use Rattle.std.specs.Prelude.{◌≡◌, ◌<◌, ◌≤◌, ◌^◌, ℕ, true, All, bytes_eq, drop, length, map, None, IfOk, IfErr, MatchOption};
+ghost use Rattle.std.specs.Prelude.{◌≡◌, ◌<◌, ◌≤◌, ◌^◌, ℕ, true, All, drop, length, map, None, IfOk, IfErr, MatchOption};
 ghost use Rattle.text_core.specs.Limits.{most_codes};
 ghost use Rattle.text_core.specs.Faults.{GivesUnlessMemory, IsFaultBy, IsFirst, RefusesUnlessMemory};
 ghost use Rattle.text_core.specs.declared.faults.Kind.{Kind as FaultKind};
@@ -58,12 +58,6 @@ fn begin(forms: &[Sexp], text: &[u8]) -> usize
     }
 }
 
-fn has_name(goal: &Goal, name: &[u8]) -> bool
-    ensures { result ≡ bytes_eq (goal_view goal.now).name name.now }
-{
-    goal.name.bytes() == name
-}
-
 /// The number of the goal that has the name.
 fn goal_number(goals: &[Goal], name: &[u8]) -> Option<u32>
     requires few { length goals.now < 2 ^ 32 }
@@ -71,7 +65,7 @@ fn goal_number(goals: &[Goal], name: &[u8]) -> Option<u32>
         (IsFoundAt (goal_named (map goal_view goals.now) name.now) (map goal_view goals.now)) }
 {
     for number in 0..goals.len() {
-        if has_name(&goals[number], name) {
+        if goals[number].name.bytes() == name {
             return Some(number as u32);
         }
     }
@@ -170,8 +164,6 @@ fn read_codes(
     requires goals { AreGoals (map goal_view goals.now) }
     ensures codes { IfOk result (Each (WritesCode (map goal_view goals.now)) (sexp_forms text.now forms.now)) }
     ensures few { IfOk result (λ codes. (0 < length codes) × (length codes ≤ most_codes)) }
-    ensures clear { IfOk result (λ _. (place : ℕ) (kind : FaultKind) → IsCodesFault (map goal_view goals.now)
-        (length text.now) (sexp_forms text.now forms.now) place kind → ⊥) }
     ensures fault { IfErr result (IsFaultBy (IsFirst (IsCodesFault (map goal_view goals.now) (length text.now)
         (sexp_forms text.now forms.now)))) }
 {
@@ -193,8 +185,6 @@ fn read_forms(alloc: Global, forms: &[Sexp], text: &[u8]) -> Result<Checked, Tex
     requires small { length text.now < 2 ^ 29 }
     ensures written { IfOk result (λ checked. WritesForms text.now (sexp_forms text.now forms.now) (checked_view checked)) }
     ensures well_formed { IfOk result (λ checked. IsInput (input_view checked.input)) }
-    ensures clear { IfOk result (λ checked. (place : ℕ) (kind : FaultKind) → IsCodesFault (input_view checked.input).goals
-        (length text.now) (from_codes (sexp_forms text.now forms.now)) place kind → ⊥) }
     ensures fault { IfErr result (IsFaultBy (IsFormsFault text.now (sexp_forms text.now forms.now))) }
 {
     read_inputs_are_well_formed();
@@ -204,19 +194,6 @@ fn read_forms(alloc: Global, forms: &[Sexp], text: &[u8]) -> Result<Checked, Tex
     let input = goal_reader::read(alloc, &text[..end])?;
     let codes = read_codes(alloc, code_forms, text, input.goals.as_slice())?;
     Ok(Checked { input, codes })
-}
-
-fn read_text(alloc: Global, bytes: &[u8]) -> Result<Checked, TextFault>
-    requires { length bytes.now < 2 ^ 29 }
-    ensures codes { IfOk result (λ checked. ReadsCodes bytes.now (checked_view checked)) }
-    ensures well_formed { IfOk result (λ checked. IsInput (input_view checked.input)) }
-    ensures clear { IfOk result (λ _. (place : ℕ) (kind : FaultKind) → IsFirstCodesFault bytes.now place kind → ⊥) }
-    ensures fault { IfErr result (IsFaultBy (IsFirstCodesFault bytes.now)) }
-{
-    one_reading();
-    texts_have_one_reading();
-    let forms = trees(alloc, bytes)?;
-    read_forms(alloc, &forms, bytes)
 }
 
 /// Reads a text of goals, and behind them codes for these goals. The cost is linear in the length of the text, beside
@@ -241,5 +218,6 @@ pub fn read(alloc: Global, bytes: &[u8]) -> Result<Checked, TextFault>
     texts_have_one_reading();
     texts_have_one_first_fault();
     read_inputs_are_well_formed();
-    read_text(alloc, bytes)
+    let forms = trees(alloc, bytes)?;
+    read_forms(alloc, &forms, bytes)
 }

@@ -1,5 +1,5 @@
 // What is printed for the codes of a text.
-ghost use Rattle.std.specs.Prelude.{◌≡◌, ◌||◌, ◌++◌, ◌∷◌, [], ◌<◌, ◌≤◌, ◌^◌, ℕ, All, IfOk, IfErr, OnOk, codes as bytes_of, length};
+ghost use Rattle.std.specs.Prelude.{◌≡◌, ◌++◌, ◌∷◌, [], ◌<◌, ◌≤◌, ◌^◌, ℕ, All, IfOk, IfErr, OnOk, codes as bytes_of, length};
 ghost use Rattle.text_core.specs.Faults.{IsFaultBy, RefusesUnlessMemory};
 ghost use Rattle.text_core.specs.LineTexts.{line_text};
 ghost use Rattle.text_core.specs.declared.faults.Kind.{Kind as FaultKind};
@@ -48,15 +48,6 @@ fn put_last(text: &mut Vec<u8>, word: &[u8]) -> Result<(), NoMemory>
     put(text, b"\n")
 }
 
-fn put_target(text: &mut Vec<u8>, goal: &Goal, set: u32) -> Result<(), NoMemory>
-    requires set { set < length goal.now.sets }
-    ensures { OnOk result (text.new.items ≡ text.old.items ++ (bytes_of " "
-        ++ line_text (bytes_of "set" ∷ format.target_name (goal_view goal.now) set ∷ []))) }
-{
-    put_word(text, b"set")?;
-    put_last(text, goal.sets.as_slice()[set as usize].name.bytes())
-}
-
 fn put_part(text: &mut Vec<u8>, goal: &Goal, part: Part) -> Result<(), NoMemory>
     requires part { IsPartOf (goal_view goal.now) part }
     ensures { OnOk result (text.new.items ≡ text.old.items ++ (bytes_of " "
@@ -70,7 +61,10 @@ fn put_part(text: &mut Vec<u8>, goal: &Goal, part: Part) -> Result<(), NoMemory>
         }
         Part::Guard => put_last(text, b"guard"),
         Part::Exit => put_last(text, b"exit"),
-        Part::Set(set) => put_target(text, goal, set),
+        Part::Set(set) => {
+            put_word(text, b"set")?;
+            put_last(text, goal.sets.as_slice()[set as usize].name.bytes())
+        }
         Part::Memory => put_last(text, b"memory"),
     }
 }
@@ -95,17 +89,6 @@ fn put_unknown(
     put_part(text, goal, part)
 }
 
-fn put_no_world(text: &mut Vec<u8>, goal: &Goal, class: u32, a: u64, b: u64) -> Result<(), NoMemory>
-    ensures { OnOk result (text.new.items
-        ≡ text.old.items ++ line_text (format.reply_words (goal_view goal.now) (answers.NoWorld class a b))) }
-{
-    put(text, b"noworld")?;
-    put_word(text, goal.name.bytes())?;
-    put_number(text, a)?;
-    put_number(text, b)?;
-    put(text, b"\n")
-}
-
 fn put_reply(text: &mut Vec<u8>, goal: &Goal, answer: Verified) -> Result<(), NoMemory>
     requires said { CanBeSaid (goal_view goal.now) answer }
     ensures { OnOk result (text.new.items ≡ text.old.items ++ line_text (format.reply_words (goal_view goal.now) answer)) }
@@ -116,40 +99,14 @@ fn put_reply(text: &mut Vec<u8>, goal: &Goal, answer: Verified) -> Result<(), No
             put_last(text, goal.name.bytes())
         }
         Verified::Unknown { rounds, stop, part } => put_unknown(text, goal, rounds, stop, part),
-        Verified::NoWorld { class, a, b } => put_no_world(text, goal, class, a, b),
+        Verified::NoWorld { a, b, .. } => {
+            put(text, b"noworld")?;
+            put_word(text, goal.name.bytes())?;
+            put_number(text, a)?;
+            put_number(text, b)?;
+            put(text, b"\n")
+        }
     }
-}
-
-fn is_unknown(answer: Verified) -> bool
-    ensures { result ≡ format.is_unknown answer }
-{
-    match answer {
-        Verified::Unknown { .. } => true,
-        Verified::Yes | Verified::NoWorld { .. } => false,
-    }
-}
-
-fn is_no_world(answer: Verified) -> bool
-    ensures { result ≡ format.is_no_world answer }
-{
-    match answer {
-        Verified::NoWorld { .. } => true,
-        Verified::Yes | Verified::Unknown { .. } => false,
-    }
-}
-
-/// Whether some answer is unknown, with this one.
-fn or_unknown(before: bool, answer: Verified) -> bool
-    ensures { result ≡ (before || format.is_unknown answer) }
-{
-    before || is_unknown(answer)
-}
-
-/// Whether some answer is that there is no world, with this one.
-fn or_no_world(before: bool, answer: Verified) -> bool
-    ensures { result ≡ (before || format.is_no_world answer) }
-{
-    before || is_no_world(answer)
 }
 
 /// A line for each code of an input. The rules are made once.
@@ -178,8 +135,11 @@ fn tell(
         let at = code.goal;
         let goal = &input.goals.as_slice()[at as usize];
         put_reply(&mut bytes, goal, answer)?;
-        unknown = or_unknown(unknown, answer);
-        noworld = or_no_world(noworld, answer);
+        match answer {
+            Verified::Yes => {}
+            Verified::Unknown { .. } => unknown = true,
+            Verified::NoWorld { .. } => noworld = true,
+        }
     }
     Ok(Told {
         bytes: Items::from(bytes),

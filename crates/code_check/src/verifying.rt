@@ -12,7 +12,7 @@ ghost use Rattle.goal_meaning.specs.WellFormed.{IsGoal, IsInput};
 ghost use Rattle.axiom_library.specs.declared.libraries.Library.{Library as LibraryOf};
 ghost use Rattle.saturation.specs.AtStart.{IsGrownAtStart, StandsAtStart};
 ghost use Rattle.saturation.specs.GoalTerms.{rules_of};
-ghost use Rattle.code_check.specs.Answers.{IsAnswerOf, IsGoalBelow, IsNoWorldAtStart, IsNoWorldInRounds};
+ghost use Rattle.code_check.specs.Answers.{IsAnswerOf, IsGoalBelow};
 ghost use Rattle.code_check.specs.Codes.{ArePlaces, FitsGoal, IsCodeOf};
 ghost use Rattle.code_check.specs.Compared.{ArePresentAddresses, ArePresentClasses, ArePresentClassesOfSome, IsBranchOf, terms_at_branch};
 ghost use Rattle.code_check.specs.Outcomes.{HasOneBranch};
@@ -38,26 +38,6 @@ use saturation::{
 };
 use std::alloc::{AllocError, Global};
 use word_ops::Op;
-
-/// Two constants in one class at the start are an answer, unlike running out of memory.
-fn no_world_at_start(fault: StartFault) -> Result<Verified, NoMemory>
-    ensures { IfOk result (IsNoWorldAtStart fault) }
-{
-    match fault {
-        StartFault::NoWorld { class, a, b } => Ok(Verified::NoWorld { class, a, b }),
-        StartFault::Memory => Err(AllocError),
-    }
-}
-
-/// Two constants in one class after some rounds are an answer, unlike running out of memory.
-fn no_world_in_rounds(fault: SaturateFault) -> Result<Verified, NoMemory>
-    ensures { IfOk result (IsNoWorldInRounds fault) }
-{
-    match fault {
-        SaturateFault::NoWorld { class, a, b } => Ok(Verified::NoWorld { class, a, b }),
-        SaturateFault::Memory => Err(AllocError),
-    }
-}
 
 /// The first word that may trap, or part of the goal that isn't the same in the code.
 fn first_different(
@@ -164,7 +144,10 @@ fn verify_from(
     let inserted = insert_code(alloc, &mut graph, words, before)?;
     let saturated = match saturate(alloc, graph, rules, rounds, nodes) {
         Ok(saturated) => saturated,
-        Err(fault) => return no_world_in_rounds(fault),
+        Err(SaturateFault::NoWorld { class, a, b }) => {
+            return Ok(Verified::NoWorld { class, a, b });
+        }
+        Err(SaturateFault::Memory) => return Err(AllocError),
     };
     let places = code.places.as_slice();
     let named = goal.lets.as_slice();
@@ -218,6 +201,7 @@ pub(crate) fn verify_by_rules(
     let goal = &input.goals.as_slice()[at as usize];
     match start(alloc, goal) {
         Ok(first) => verify_from(alloc, rules, goal, first, code, rounds, nodes),
-        Err(fault) => no_world_at_start(fault),
+        Err(StartFault::NoWorld { class, a, b }) => Ok(Verified::NoWorld { class, a, b }),
+        Err(StartFault::Memory) => Err(AllocError),
     }
 }

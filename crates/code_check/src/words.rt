@@ -1,5 +1,5 @@
 // Reading the words of a code.
-ghost use Rattle.std.specs.Prelude.{◌≡◌, ◌<◌, ◌^◌, ◌&&◌, ◌||◌, ℕ, List, length, true, false, IfOk, IfErr, Some};
+ghost use Rattle.std.specs.Prelude.{◌≡◌, ◌<◌, ◌^◌, ℕ, List, length, true, false, IfOk, IfErr, Some};
 ghost use Rattle.std.specs.List.{list_any};
 ghost use Rattle.text_core.specs.Faults.{IsFaultBy};
 ghost use Rattle.forms.specs.Forms.{Form, number_in, sexp_form};
@@ -20,20 +20,6 @@ fn is_branch(word: u32) -> bool
     ensures { result ≡ is_branch_word word }
 {
     branch_register(word).is_some()
-}
-
-/// Whether a branch stands among the words, with this one.
-fn or_branch(has_branch: bool, word: u32) -> bool
-    ensures { result ≡ (has_branch || is_branch_word word) }
-{
-    has_branch || is_branch(word)
-}
-
-/// Whether the word is a branch behind another one.
-fn is_second(has_branch: bool, word: u32) -> bool
-    ensures { result ≡ (has_branch && is_branch_word word) }
-{
-    has_branch && is_branch(word)
 }
 
 /// A number of 32 bits.
@@ -75,7 +61,7 @@ fn next_word(
     if !may_stand(word, index, count) {
         return Err(at(place(form), Kind::BadWord));
     }
-    if is_second(has_branch, word) {
+    if has_branch && is_branch(word) {
         return Err(at(place(form), Kind::BadWord));
     }
     Ok(word)
@@ -102,7 +88,7 @@ pub(crate) fn words(alloc: Global, form: &Sexp, text: &[u8]) -> Result<Items<u32
             return Err(at(place(part), Kind::LimitPassed));
         }
         let word = next_word(part, text, index, parts.len(), has_branch)?;
-        has_branch = or_branch(has_branch, word);
+        has_branch |= is_branch(word);
         words.push(word)?;
     }
     Ok(Items::from(words))

@@ -1,4 +1,4 @@
-use Rattle.std.proofs.Common.{◌≡◌, None, Some, refl, sym, subst}
+use Rattle.std.proofs.Common.{◌≡◌, None, Some, set, refl, sym, subst}
 use Rattle.std.proofs.lemmas.Result.{IfOk-weaker}
 use Rattle.word_ops.specs.declared.operators.WordOp.TheVariants as ops
 use Rattle.word_ops.specs.declared.sorts.Access.TheVariants.{Quad}
@@ -15,8 +15,8 @@ pub returns-in_ok-class-in-Operate-clause-written : goal.returns-in_ok-class-in-
 returns-in_ok-class-in-Operate-clause-written c ts are =
     let instr = subst IsWellFormed c.in-Operate.is c.requires.instr in
     let t = operate_term c.in-Operate.op (ts.registers c.in-Operate.ra) (second_term c.in-Operate.second ts.registers) in
-    subst (λ i. IsWritten i c.args.graph.now ts c.operate_class.new.graph c.write_register.new.classes c.args.memory.now None) (sym c.in-Operate.is)
-    (plain_written _ _ _ _ _ _ refl (wrote c.more_terms_may_be_inserted.ensures.others c.more_terms_may_be_inserted.ensures.class c.args.graph.now c.operate_class.new.graph c.args.classes.now c.args.memory.now ts are c.in-Operate.rc c.in_ok-class-in-Operate.class t (c.in_ok-class-in-Operate.ensures.built ts c.args.memory.now are) c.write_register.new.classes instr.2 c.if-rc-ne31.true c.write_register.ensures))
+    subst (λ i. IsWritten i c.args.graph.now ts c.operate_class.new.graph (set c.args.classes.now c.in-Operate.rc (Some c.in_ok-class-in-Operate.class)) c.args.memory.now None) (sym c.in-Operate.is)
+    (plain_written _ _ _ _ _ _ refl (wrote c.more_terms_may_be_inserted.ensures.others c.more_terms_may_be_inserted.ensures.class c.args.graph.now c.operate_class.new.graph c.args.classes.now c.args.memory.now ts are c.in-Operate.rc c.in_ok-class-in-Operate.class t (c.in_ok-class-in-Operate.ensures.built ts c.args.memory.now are) (set c.args.classes.now c.in-Operate.rc (Some c.in_ok-class-in-Operate.class)) instr.2 c.if-rc-ne31.true refl))
 
 pub returns-else-rc-ne31-clause-written : goal.returns-else-rc-ne31-clause-written
 returns-else-rc-ne31-clause-written c ts are =
@@ -28,8 +28,8 @@ returns-in_ok-class-in-Lda-clause-written c ts are =
     let instr = subst IsWellFormed c.in-Lda.is c.requires.instr in
     let same : c.cast_unsigned-n.result ≡ sign_extended c.in-Lda.disp = word_of_disp c.cast_unsigned-n.result c.from.result c.in-Lda.disp instr.2 c.from.ensures c.cast_unsigned-n.ensures in
     let t = w2 ops.Lda (ts.registers c.in-Lda.rb) (constant (sign_extended c.in-Lda.disp)) in
-    subst (λ i. IsWritten i c.args.graph.now ts c.displaced_class.new.graph c.write_register-then-ra-ne31.new.classes c.args.memory.now None) (sym c.in-Lda.is)
-    (plain_written _ _ _ _ _ _ refl (wrote c.more_terms_may_be_inserted.ensures.others c.more_terms_may_be_inserted.ensures.class c.args.graph.now c.displaced_class.new.graph c.args.classes.now c.args.memory.now ts are c.in-Lda.ra c.in_ok-class-in-Lda.class t (subst (λ n. IsTermInserted c.args.graph.now sorts.Word (w2 ops.Lda (ts.registers c.in-Lda.rb) (constant n)) c.in_ok-class-in-Lda.class c.displaced_class.new.graph) same (c.in_ok-class-in-Lda.ensures.built ts c.args.memory.now are)) c.write_register-then-ra-ne31.new.classes instr.0 c.if-ra-ne31.true c.write_register-then-ra-ne31.ensures))
+    subst (λ i. IsWritten i c.args.graph.now ts c.displaced_class.new.graph (set c.args.classes.now c.in-Lda.ra (Some c.in_ok-class-in-Lda.class)) c.args.memory.now None) (sym c.in-Lda.is)
+    (plain_written _ _ _ _ _ _ refl (wrote c.more_terms_may_be_inserted.ensures.others c.more_terms_may_be_inserted.ensures.class c.args.graph.now c.displaced_class.new.graph c.args.classes.now c.args.memory.now ts are c.in-Lda.ra c.in_ok-class-in-Lda.class t (subst (λ n. IsTermInserted c.args.graph.now sorts.Word (w2 ops.Lda (ts.registers c.in-Lda.rb) (constant n)) c.in_ok-class-in-Lda.class c.displaced_class.new.graph) same (c.in_ok-class-in-Lda.ensures.built ts c.args.memory.now are)) (set c.args.classes.now c.in-Lda.ra (Some c.in_ok-class-in-Lda.class)) instr.0 c.if-ra-ne31.true refl))
 
 pub returns-else-ra-ne31-clause-written : goal.returns-else-ra-ne31-clause-written
 returns-else-ra-ne31-clause-written c ts are =
@@ -41,8 +41,8 @@ returns-in_ok-class-in-Ldah-clause-written c ts are =
     let instr = subst IsWellFormed c.in-Ldah.is c.requires.instr in
     let same : c.cast_unsigned-n-then-ra-ne31-2.result ≡ sign_extended c.in-Ldah.disp = word_of_disp c.cast_unsigned-n-then-ra-ne31-2.result c.from-then-ra-ne31-2.result c.in-Ldah.disp instr.2 c.from-then-ra-ne31-2.ensures c.cast_unsigned-n-then-ra-ne31-2.ensures in
     let t = w2 ops.Ldah (ts.registers c.in-Ldah.rb) (constant (sign_extended c.in-Ldah.disp)) in
-    subst (λ i. IsWritten i c.args.graph.now ts c.displaced_class-then-ra-ne31-2.new.graph c.write_register-then-ra-ne31-2.new.classes c.args.memory.now None) (sym c.in-Ldah.is)
-    (plain_written _ _ _ _ _ _ refl (wrote c.more_terms_may_be_inserted.ensures.others c.more_terms_may_be_inserted.ensures.class c.args.graph.now c.displaced_class-then-ra-ne31-2.new.graph c.args.classes.now c.args.memory.now ts are c.in-Ldah.ra c.in_ok-class-in-Ldah.class t (subst (λ n. IsTermInserted c.args.graph.now sorts.Word (w2 ops.Ldah (ts.registers c.in-Ldah.rb) (constant n)) c.in_ok-class-in-Ldah.class c.displaced_class-then-ra-ne31-2.new.graph) same (c.in_ok-class-in-Ldah.ensures.built ts c.args.memory.now are)) c.write_register-then-ra-ne31-2.new.classes instr.0 c.if-ra-ne31-2.true c.write_register-then-ra-ne31-2.ensures))
+    subst (λ i. IsWritten i c.args.graph.now ts c.displaced_class-then-ra-ne31-2.new.graph (set c.args.classes.now c.in-Ldah.ra (Some c.in_ok-class-in-Ldah.class)) c.args.memory.now None) (sym c.in-Ldah.is)
+    (plain_written _ _ _ _ _ _ refl (wrote c.more_terms_may_be_inserted.ensures.others c.more_terms_may_be_inserted.ensures.class c.args.graph.now c.displaced_class-then-ra-ne31-2.new.graph c.args.classes.now c.args.memory.now ts are c.in-Ldah.ra c.in_ok-class-in-Ldah.class t (subst (λ n. IsTermInserted c.args.graph.now sorts.Word (w2 ops.Ldah (ts.registers c.in-Ldah.rb) (constant n)) c.in_ok-class-in-Ldah.class c.displaced_class-then-ra-ne31-2.new.graph) same (c.in_ok-class-in-Ldah.ensures.built ts c.args.memory.now are)) (set c.args.classes.now c.in-Ldah.ra (Some c.in_ok-class-in-Ldah.class)) instr.0 c.if-ra-ne31-2.true refl))
 
 pub returns-else-ra-ne31-2-clause-written : goal.returns-else-ra-ne31-2-clause-written
 returns-else-ra-ne31-2-clause-written c ts are =

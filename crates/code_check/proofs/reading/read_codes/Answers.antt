@@ -10,7 +10,7 @@ use Rattle.code_check.specs.CodeGrammar.{WritesCode}
 use Rattle.code_check.specs.CodeRoles as roles
 use Rattle.code_check.specs.CodeRoles.{IsCodeFaultAs, IsCodesFault}
 use Rattle.code_check.proofs.FormLists.{each_length, each_more, got_more, none_left, nth_form, part_of, some_left}
-use Rattle.code_check.proofs.CodeTexts.{code_first, codes_clear, no_code_first, none_clear, one_more_clear}
+use Rattle.code_check.proofs.CodeTexts.{code_first, no_code_first, none_clear, one_more_clear}
 use Rattle.code_check.proofs.Searches.{few_taken}
 use Rattle.code_check.proofs.reading.read_codes.Goals as goal
 
@@ -97,15 +97,3 @@ returns-clause-few c =
     let from = ap length c.from.ensures in
     let most = few_taken i forms (length c.loop-index.codes.items) counted few in
     (omega (arith, some, counted, whole, n, from), omega (arith, most, from))
-
-pub returns-clause-clear : goal.returns-clause-clear
-returns-clause-clear c =
-    let text = c.args.text.now in
-    let goals = map goal_view c.args.goals.now in
-    let forms = sexp_forms text c.args.forms.now in
-    let i = c.loop-index.index in
-    let inv = c.loop-index.invariant in
-    let n = length-map c.args.forms.now (sexp_form text) in
-    let f = c.loop-index-test.false in
-    let some = some_left (length c.args.forms.now) c.is_empty.result c.is_empty.ensures c.if-is_empty.false in
-    codes_clear goals forms (length text) (λ j form l g. inv.clear j form (omega (arith, l, n, f)) g) (omega (arith, some, n))

@@ -95,16 +95,3 @@ returns-clause-written c =
 
 pub returns-clause-well_formed : goal.returns-clause-well_formed
 returns-clause-well_formed c = well_formed_is c.read_inputs_are_well_formed.ensures c.args.text.now c.begin-end.result c.requires.small (input_view c.in_ok-input.input) c.in_ok-input.ensures.input
-
-pub returns-clause-clear : goal.returns-clause-clear
-returns-clause-clear c = λ place kind fault.
-    let text = c.args.text.now in
-    let forms = c.args.forms.now in
-    let n = c.first_code-first.result in
-    let rest = take (length forms - n) (drop n forms) in
-    let from : sexp_forms text rest ≡ from_codes (sexp_forms text forms) = ap (sexp_forms text) (take_rest forms n) ∙ sym c.first_code-first.ensures.from in
-    let begins : take c.begin-end.result text ≡ bytes_before text (sexp_forms text forms) = ap (λ k. take k text) (c.begin-end.ensures ∙ ap (first_place (length text)) from) in
-    let goals : map goal_view c.as_slice.result.now ≡ (input_view c.in_ok-input.input).goals = ap (map goal_view) c.as_slice.ensures in
-    c.in_ok-codes.ensures.clear place kind
-    (subst (λ (fs : List Form). IsCodesFault (map goal_view c.as_slice.result.now) (length text) fs place kind) (sym from)
-    (subst (λ (gs : List GoalTree). IsCodesFault gs (length text) (from_codes (sexp_forms text forms)) place kind) (sym goals) fault))

@@ -1,4 +1,4 @@
-use Rattle.std.proofs.Common.{◌≡◌, ◌<◌, Some, length, map, sym, subst, ◌∙◌}
+use Rattle.std.proofs.Common.{◌≡◌, ◌<◌, ℕ, Ok, Some, length, map, sym, subst, ◌∙◌}
 use Rattle.std.specs.Prelude.{slice_get}
 use Rattle.std.proofs.lemmas.List.Elements.{All-contains}
 use Rattle.std.proofs.lemmas.Option.{same_Some}
@@ -6,11 +6,13 @@ use Rattle.std.proofs.lemmas.Result.{IfOk-weaker}
 use Rattle.axiom_library.specs.declared.libraries.Library.{Library}
 use Rattle.goal_meaning.specs.Views.{GoalTree, InputTree, goal_view, input_view}
 use Rattle.goal_meaning.specs.WellFormed.{IsGoal, IsInput}
+use Rattle.saturation.specs.AtStart.{IsHopelessAtStart, StartFaultIs, StartNamesLowClass}
 use Rattle.saturation.specs.GoalTerms.{rules_of}
 use Rattle.code_check.specs.Codes.{FitsGoal}
 use Rattle.code_check.specs.Verified.{IsRightFor}
+use Rattle.code_check.specs.declared.codes.Verified.TheVariants.{NoWorld}
 use Rattle.code_check.proofs.Deciding.{inputs_low}
-use Rattle.code_check.proofs.Answering.{few_sets, for_libraries, for_the_code, for_the_goal, goal_among, goal_below, goal_low, goal_there, low_inputs, start_few, start_refused}
+use Rattle.code_check.proofs.Answering.{few_sets, for_libraries, for_the_code, for_the_goal, goal_among, goal_below, goal_low, goal_there, low_inputs, renamed, start_few}
 use Rattle.code_check.proofs.verifying.verify_by_rules.Goals as goal
 use Rattle.code_check.proofs.verifying.verify_by_rules.Goals.{After-start}
 
@@ -54,23 +56,26 @@ facts c =
           (same_Some c.requires.code.goal (goal_view g) (sym c.requires.code.of_goal ∙ is_there)) c.requires.code.fits;
     }
 
-pub returns-in-Err : goal.returns-in-Err
-returns-in-Err c =
-    let f = facts (goal.at.returns-in-Err c).After-start in
+pub returns-in-Err-NoWorld : goal.returns-in-Err-NoWorld
+returns-in-Err-NoWorld c =
+    let f = facts (goal.at.returns-in-Err-NoWorld c).After-start in
     let input = input_view c.args.input.now in
     let code = c.args.code.now in
     let tree = goal_view c.index-as_slice-at.result in
     let instrs = f.fits.instrs in
+    let fault = c.in-Err-NoWorld in
+    let answer = NoWorld fault.class fault.a fault.b in
     record {
-      right = for_libraries c.no_world_at_start.result (λ library. c.args.rules.now ≡ rules_of library input)
-          (λ library answer. (other : GoalTree) → slice_get input.goals code.goal ≡ Some other → IsRightFor input other code c.args.rounds c.args.nodes library answer)
+      right = renamed (λ answer.
+          (library : Library) → c.args.rules.now ≡ rules_of library input → (other : GoalTree) → slice_get input.goals code.goal ≡ Some other → IsRightFor input other code c.args.rounds c.args.nodes library answer)
+          _ _ _ _ _ _ fault.class-is fault.a-is fault.b-is
           (λ library rules.
-          for_the_goal input code c.args.rounds c.args.nodes library tree c.no_world_at_start.result f.there
-          (for_the_code input code c.args.rounds c.args.nodes library tree instrs f.fits.is_code.decode c.no_world_at_start.result
-          (start_refused input code c.args.rounds c.args.nodes library tree instrs f.fits.is_code.decode
-          (λ class a b fault hopeless. c.compared_graphs_decide.ensures.start input tree instrs c.args.rounds c.args.nodes library class a b c.requires.input fault hopeless)
-          c.in-Err.fault c.no_world_at_start.result c.in-Err.ensures.fault c.in-Err.ensures.hopeless c.in-Err.ensures.low
-          c.no_world_at_start.ensures)));
+          for_the_goal input code c.args.rounds c.args.nodes library {E = ℕ} tree (Ok answer) f.there
+          (for_the_code input code c.args.rounds c.args.nodes library tree instrs f.fits.is_code.decode {E = ℕ} (Ok answer) (
+            c.compared_graphs_decide.ensures.start input tree instrs c.args.rounds c.args.nodes library fault.class fault.a fault.b c.requires.input
+                (subst (StartFaultIs tree) fault.field-0-is fault.ensures.fault) (subst (IsHopelessAtStart tree) fault.field-0-is fault.ensures.hopeless),
+            subst StartNamesLowClass fault.field-0-is fault.ensures.low,
+          )));
     }
 
 pub verify_from-requires : goal.verify_from-requires

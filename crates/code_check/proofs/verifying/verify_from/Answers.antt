@@ -5,21 +5,24 @@ use Rattle.word_ops.specs.declared.sorts.Op.{Op}
 use Rattle.word_terms.specs.Tree.{Tree}
 use Rattle.pattern_match.specs.Classes.{IsClass}
 use Rattle.alpha_encode.specs.Decoded.{decoded}
+use Rattle.axiom_library.specs.declared.libraries.Library.{Library}
 use Rattle.goal_meaning.specs.Expanded.{expanded, expanded_terms, let_terms, let_values}
-use Rattle.goal_meaning.specs.Views.{goal_view, let_view}
+use Rattle.goal_meaning.specs.Views.{InputTree, goal_view, let_view}
 use Rattle.goal_meaning.specs.declared.goals.Let.{Let}
 use Rattle.goal_meaning.specs.WellFormed.{IsGoal, IsInput}
 use Rattle.saturation.specs.GoalTerms.{assumed_pairs, kept_terms, rules_of}
 use Rattle.saturation.specs.OverLets.{AreLetsBelow}
-use Rattle.saturation.specs.Rounds.{IsHopeless, IsSaturated, KeepsStanding, SaturateFaultIs}
+use Rattle.saturation.specs.Rounds.{IsHopeless, IsSaturated, KeepsStanding, RoundsNameLowClass, SaturateFaultIs}
+use Rattle.saturation.specs.declared.faults.SaturateFault.TheVariants as faults
 use Rattle.code_check.specs.Codes.{ArePlaces}
 use Rattle.code_check.specs.Compared.{ArePresentAddresses, ArePresentClasses, terms_at_branch}
 use Rattle.code_check.specs.Same.{IsFirstDifferent, Same, terms_at_end}
 use Rattle.code_check.specs.Terms.{terms_at_entry, written_terms}
 use Rattle.code_check.specs.Verified.{IsRightFor}
+use Rattle.code_check.specs.declared.codes.Verified.TheVariants.{NoWorld}
 use Rattle.code_check.proofs.CodeTerms.{present_addresses, present_both}
 use Rattle.code_check.proofs.Comparisons.{have_class}
-use Rattle.code_check.proofs.Answering.{answered, let_there, few_code, few_of_words, few_rows, few_words, for_inputs, for_the_code, room_for, rounds_refused}
+use Rattle.code_check.proofs.Answering.{answered, let_there, few_code, few_of_words, few_rows, few_words, for_the_code, renamed, room_for}
 use Rattle.code_check.proofs.verifying.verify_from.Goals as goal
 use Rattle.code_check.proofs.verifying.verify_from.Goals.{After-as_slice-places, After-as_slice-lets}
 
@@ -47,26 +50,29 @@ saturate-requires c = record {
 
 -- ---- after the rounds
 
-pub returns-in-Err : goal.returns-in-Err
-returns-in-Err c =
+pub returns-in-Err-NoWorld : goal.returns-in-Err-NoWorld
+returns-in-Err-NoWorld c =
     let code = c.args.code.now in
     let tree = goal_view c.args.goal.now in
     let fits = c.requires.fits in
     let g = c.insert_code.new.graph in
     let is = c.in_ok-inserted.ensures.inserted fits.instrs (subst (λ ws. map decoded ws ≡ map Some fits.instrs) (sym c.as_slice-words.ensures) fits.is_code.decode) in
+    let fault = c.in-Err-NoWorld in
+    let answer = NoWorld fault.class fault.a fault.b in
     record {
-      right = for_inputs c.no_world_in_rounds.result IsInput (λ library input. c.args.rules.now ≡ rules_of library input) (λ input. IsGoal input.ops tree)
-          (λ library input answer. IsRightFor input tree code c.args.rounds c.args.nodes library answer)
+      right = renamed (λ answer.
+          (library : Library) (input : InputTree) → IsInput input → c.args.rules.now ≡ rules_of library input → IsGoal input.ops tree → IsRightFor input tree code c.args.rounds c.args.nodes library answer)
+          _ _ _ _ _ _ fault.class-is fault.a-is fault.b-is
           (λ library input is_input rules is_goal.
-          for_the_code input code c.args.rounds c.args.nodes library tree fits.instrs fits.is_code.decode c.no_world_in_rounds.result
-          (rounds_refused input code c.args.rounds c.args.nodes library tree fits.instrs fits.is_code.decode g
-          (λ class a b impossible hopeless.
-          c.compared_graphs_decide.ensures.round input tree fits.instrs c.args.rounds c.args.nodes library a b class c.args.first g is_input
-          c.requires.graph c.requires.grown c.requires.stands fits.is_code.well_formed is.inserted impossible hopeless)
-          c.in-Err.fault c.no_world_in_rounds.result
-          (subst (λ rs. SaturateFaultIs rs g c.args.rounds c.args.nodes c.in-Err.fault) rules c.in-Err.ensures.fault)
-          (subst (λ rs. IsHopeless rs g c.in-Err.fault) rules c.in-Err.ensures.hopeless) c.in-Err.ensures.low
-          c.no_world_in_rounds.ensures));
+          let impossible = subst (λ rs. SaturateFaultIs rs g c.args.rounds c.args.nodes (faults.NoWorld fault.class fault.a fault.b)) rules
+          (subst (SaturateFaultIs c.args.rules.now g c.args.rounds c.args.nodes) fault.field-0-is fault.ensures.fault) in
+          let hopeless = subst (λ rs. IsHopeless rs g (faults.NoWorld fault.class fault.a fault.b)) rules
+          (subst (IsHopeless c.args.rules.now g) fault.field-0-is fault.ensures.hopeless) in
+          for_the_code input code c.args.rounds c.args.nodes library tree fits.instrs fits.is_code.decode {E = ℕ} (Ok answer) (
+            c.compared_graphs_decide.ensures.round input tree fits.instrs c.args.rounds c.args.nodes library fault.a fault.b fault.class c.args.first g is_input
+                c.requires.graph c.requires.grown c.requires.stands fits.is_code.well_formed is.inserted impossible hopeless,
+            subst RoundsNameLowClass fault.field-0-is fault.ensures.low,
+          ));
     }
 
 present_is : (c : After-as_slice-places) →

@@ -87,7 +87,7 @@ loop-index-preserved c =
     let w = c.in_ok-word.word in
     let next = subst (λ n. IsNextWord n i c.loop-index.has_branch w) (sym count) c.in_ok-word.ensures.next in
     let read = read_more form i w c.loop-index.words.items c.loop-index.has_branch part c.loop-index.invariant below g c.in_ok-word.ensures.word next in
-    subst (λ b. AreReadTo form (i + 1) c.push.new.self.items b) (sym c.or_branch-has_branch.ensures)
+    subst (λ b. AreReadTo form (i + 1) c.push.new.self.items b) (ap (λ b. c.loop-index.has_branch || b) (sym c.is_branch-has_branch.ensures))
     (subst (λ ws. AreReadTo form (i + 1) ws (c.loop-index.has_branch || is_branch_word w)) (sym c.in_ok-push.ensures.items) read)
 
 pub returns-clause-words : goal.returns-clause-words
