@@ -6,7 +6,11 @@ use Rattle.std.proofs.lemmas.List.Concat.{flat_map-cons}
 use Rattle.cnf_core.specs.declared.literal.Lit.{Lit}
 use Rattle.refutation_check.specs.LineWords.{literal_word}
 use Rattle.text_core.specs.LineTexts.{line_text, lines_text}
-use Rattle.dimacs.specs.Dimacs.{clause_words, literal_front}
+use Rattle.dimacs.specs.Dimacs.{clause_words}
+
+-- the word of a literal, and a space behind it
+abbrev pub literal_front : Lit → List ℕ
+literal_front l = literal_word l ++ codes " "
 
 one_more : (l : Lit) (ls : List Lit) → flat_map literal_front ls ++ codes "0\n" ≡ line_text (clause_words ls)
     → flat_map literal_front (l ∷ ls) ++ codes "0\n" ≡ literal_word l ++ (codes " " ++ line_text (clause_words ls))

@@ -13,9 +13,5 @@ problem_words f = codes "p" ∷ codes "cnf" ∷ decimal f.vars ∷ decimal (leng
 abbrev pub clause_words : List Lit → Words
 clause_words c = map literal_word c ++ codes "0" ∷ []
 
--- the word of a literal, and a space behind it
-abbrev pub literal_front : Lit → List ℕ
-literal_front l = literal_word l ++ codes " "
-
 abbrev pub dimacs_text : Formula → List ℕ
 dimacs_text f = lines_text (problem_words f ∷ map clause_words f.clauses)

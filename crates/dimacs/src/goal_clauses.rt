@@ -1,15 +1,11 @@
 // The clauses of a goal, from the bytes of an answer.
 ghost use Rattle.std.specs.Prelude.{◌≡◌, ℕ, ◌≤◌, ◌<◌, ◌^◌, length, IfOk, IfErr};
 ghost use Rattle.schedule_meaning.specs.Limits.{most_cycles};
-ghost use Rattle.answer_check.specs.Reports.{verdict_words};
-ghost use Rattle.answer_check.specs.declared.verdicts.Verdict.TheVariants.{Size};
 ghost use Rattle.answer_texts.specs.WellFormed.{IsAnswer, IsClaimed};
 ghost use Rattle.machine_table.specs.Tables.{IsTable};
 ghost use Rattle.answer_texts.specs.ReadAnswers.{IsAnswerFault};
 ghost use Rattle.reports.specs.Errors.{IsErrorBy};
-ghost use Rattle.reports.specs.declared.statuses.Status.TheVariants as statuses;
-ghost use Rattle.text_core.specs.LineTexts.{line_text};
-ghost use Rattle.dimacs.specs.GoalClauses.{AreClausesAt, AreClausesOf, GivesClauses, no_goal_words, no_world_words};
+ghost use Rattle.dimacs.specs.GoalClauses.{AreClausesAt, AreClausesOf, GivesClauses};
 
 use crate::printing::dimacs;
 use answer_check::{Verdict, encoding_named, put_verdict};
@@ -20,45 +16,7 @@ use machine_table::Table;
 use order_encoding::full_as;
 use reports::{Report, Status, TextError};
 use std::alloc::{AllocError, Global};
-use text_core::{Name, put, put_word};
-
-/// `no goal`.
-fn no_goal(alloc: Global) -> Result<Report, NoMemory>
-    ensures bytes { IfOk result (λ r. r.bytes.items ≡ line_text no_goal_words) }
-    ensures status { IfOk result (λ r. r.status ≡ statuses.Missing) }
-{
-    Ok(Report {
-        bytes: Vec::from_slice(alloc, b"no goal\n")?,
-        status: Status::Missing,
-    })
-}
-
-/// `no NAME noworld`.
-fn no_world(alloc: Global, name: &Name) -> Result<Report, NoMemory>
-    ensures bytes { IfOk result (λ r. r.bytes.items ≡ line_text (no_world_words name.now)) }
-    ensures status { IfOk result (λ r. r.status ≡ statuses.Missing) }
-{
-    let mut line = Vec::from_slice(alloc, b"no")?;
-    put_word(&mut line, name.bytes())?;
-    put(&mut line, b" noworld\n")?;
-    Ok(Report {
-        bytes: line,
-        status: Status::Missing,
-    })
-}
-
-/// The line of a goal whose clauses would be too many, as where its claim is tested.
-fn too_large(alloc: Global, goal: &Claimed, vars: u64, clauses: u64) -> Result<Report, NoMemory>
-    ensures bytes { IfOk result (λ r. r.bytes.items ≡ line_text (verdict_words goal.now (Size vars clauses))) }
-    ensures status { IfOk result (λ r. r.status ≡ statuses.Missing) }
-{
-    let mut line = Vec::new(alloc);
-    put_verdict(&mut line, goal, Verdict::Size { vars, clauses })?;
-    Ok(Report {
-        bytes: line,
-        status: Status::Missing,
-    })
-}
+use text_core::{put, put_word};
 
 /// What is written of a goal's clauses for k cycles.
 fn clauses_of(
@@ -74,14 +32,27 @@ fn clauses_of(
     ensures { IfOk result (λ r. AreClausesOf encoding table.now goal.now k r.bytes.items r.status) }
 {
     let Some(graph) = &goal.graph else {
-        return no_world(alloc, &goal.name);
+        let mut line = Vec::from_slice(alloc, b"no")?;
+        put_word(&mut line, goal.name.bytes())?;
+        put(&mut line, b" noworld\n")?;
+        return Ok(Report {
+            bytes: line,
+            status: Status::Missing,
+        });
     };
     match full_as(alloc, encoding, graph, table, k) {
         Ok(encoded) => Ok(Report {
             bytes: dimacs(alloc, &encoded.cnf)?,
             status: Status::Done,
         }),
-        Err(EncodeFault::Size { vars, clauses }) => too_large(alloc, goal, vars, clauses),
+        Err(EncodeFault::Size { vars, clauses }) => {
+            let mut line = Vec::new(alloc);
+            put_verdict(&mut line, goal, Verdict::Size { vars, clauses })?;
+            Ok(Report {
+                bytes: line,
+                status: Status::Missing,
+            })
+        }
         Err(EncodeFault::Memory) => Err(AllocError),
     }
 }
@@ -95,7 +66,10 @@ fn clauses_at(alloc: Global, answer: &AnswerText, at: u32, k: u32) -> Result<Rep
     let encoding = encoding_named(answer.encoding);
     match answer.goals.as_slice().get(at as usize) {
         Some(goal) => clauses_of(alloc, encoding, &answer.table, goal, k),
-        None => no_goal(alloc),
+        None => Ok(Report {
+            bytes: Vec::from_slice(alloc, b"no goal\n")?,
+            status: Status::Missing,
+        }),
     }
 }
 

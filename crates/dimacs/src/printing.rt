@@ -1,8 +1,7 @@
 // The text of a formula.
 ghost use Rattle.std.specs.Prelude.{◌≡◌, ◌++◌, IfOk, OnOk};
-ghost use Rattle.std.specs.List.{flat_map};
 ghost use Rattle.text_core.specs.LineTexts.{line_text};
-ghost use Rattle.dimacs.specs.Dimacs.{clause_words, dimacs_text, literal_front, problem_words};
+ghost use Rattle.dimacs.specs.Dimacs.{clause_words, dimacs_text, problem_words};
 
 use cnf_core::{Cnf, Lit};
 use items::NoMemory;
@@ -10,30 +9,17 @@ use itoa::Buffer;
 use std::alloc::Global;
 use text_core::{put, put_number};
 
-/// A literal and a space.
-fn put_literal(text: &mut Vec<u8>, lit: Lit) -> Result<(), NoMemory>
-    ensures { OnOk result (text.new.items ≡ text.old.items ++ literal_front lit) }
-{
-    if !lit.positive {
-        text.push(b'-')?;
-    }
-    text.extend_from_slice(Buffer::new().format(lit.var).as_bytes())?;
-    text.extend_from_slice(b" ")
-}
-
-fn put_literals(text: &mut Vec<u8>, lits: &[Lit]) -> Result<(), NoMemory>
-    ensures { OnOk result (text.new.items ≡ text.old.items ++ flat_map literal_front lits.now) }
-{
-    for lit in lits {
-        put_literal(text, *lit)?;
-    }
-    Ok(())
-}
-
+/// The line of a clause: its literals, each with a space behind it, and 0.
 fn put_clause(text: &mut Vec<u8>, lits: &[Lit]) -> Result<(), NoMemory>
     ensures { OnOk result (text.new.items ≡ text.old.items ++ line_text (clause_words lits.now)) }
 {
-    put_literals(text, lits)?;
+    for lit in lits {
+        if !lit.positive {
+            text.push(b'-')?;
+        }
+        text.extend_from_slice(Buffer::new().format(lit.var).as_bytes())?;
+        text.extend_from_slice(b" ")?;
+    }
     put(text, b"0\n")
 }
 
