@@ -1,6 +1,6 @@
 -- The lines of a claimed goal, and what trying to trim them comes to.
-use Rattle.std.proofs.Common.{◌≡◌, ℕ, ◌<◌, ◌≤◌, ◌^◌, length, sym, ◌∙◌, subst}
-use Rattle.std.specs.Prelude.{Option, None, Some, MatchOption, Result, Ok, Err, IfOk}
+use Rattle.std.proofs.Common.{◌≡◌, ℕ, ◌<◌, ◌^◌, length, sym, ◌∙◌, subst}
+use Rattle.std.specs.Prelude.{Option, None, Some, MatchOption}
 use Rattle.std.proofs.lemmas.Option.{same_Some, none-some}
 use Rattle.answer_check.specs.declared.verdicts.Verdict.TheVariants as verdict
 use Rattle.answer_texts.specs.AnswerLines.{refuted_cycles}
@@ -11,16 +11,14 @@ use Rattle.cnf_core.specs.Refutation.{IsEmptyOnlyLast, IsFirstRefusal, Refutes}
 use Rattle.cnf_core.specs.declared.line.Lines.{Lines}
 use Rattle.cycle_encoding.specs.Plans.{IsTooLarge}
 use Rattle.cycle_encoding.specs.declared.encodings.Encoding.{Encoding}
-use Rattle.cycle_encoding.specs.declared.plans.EncodeFault.{EncodeFault}
 use Rattle.cycle_encoding.specs.declared.plans.EncodeFault.TheVariants.{Size}
 use Rattle.graph_meaning.specs.WellFormed.{IsLaunchGraph}
 use Rattle.graph_meaning.specs.declared.graphs.LaunchGraph.{LaunchGraph}
 use Rattle.machine_table.specs.declared.tables.Table.{Table}
 use Rattle.order_encoding.specs.WholeFormula.{IsFormulaOf, IsSizeFault}
-use Rattle.refute_trim.specs.Outcomes.{IsOutcomeFor, TellsSizeOf}
+use Rattle.refute_trim.specs.Outcomes.{IsOutcomeFor}
 use Rattle.refute_trim.specs.Trimmed.{AreTrimmed}
 use Rattle.refute_trim.specs.TrimmedAnswers.{AreToRefute, AreTrimmedLines, no_lines, needed, too_large, refused}
-use Rattle.refute_trim.specs.declared.goals.Outcome.{Outcome}
 use Rattle.refute_trim.specs.declared.goals.Outcome.TheVariants.{Kept, Rejected}
 
 -- ---- what a claim keeps
@@ -46,12 +44,7 @@ worked_goal version c g (worked {g = this} others graph good unpinned fits lines
   few = λ these refute. few_of these lines refute;
 }
 
--- ---- results
-
--- what holds of a result that is given, by two promises
-pub if_both : {A E : Type 0} (P Q R : A → Type 0) (r : Result A E) → ((a : A) → P a → Q a → R a) → IfOk r P → IfOk r Q → IfOk r R
-if_both P Q R (Ok a) f p q = f a p q
-if_both P Q R (Err x) f p q = tt
+-- ---- what may be found
 
 -- of what is found, or else holds, nothing was found, or this was
 pub where_none : {A P : Type 0} (Q : A → Type 0) (o : Option A) → o ≡ None → MatchOption o P Q → P
@@ -75,16 +68,6 @@ module _ (e : Encoding) (table : Table) (g : LaunchGraph) (k : ℕ) (c : Claimed
 
   pub is_too_large : (vars clauses : ℕ) → IsSizeFault e g table k (Size vars clauses) → IsOutcomeFor e table c (Rejected (verdict.Size vars clauses))
   is_too_large vars clauses (f, formula, passes) = too_large (to_refute f formula) passes
-
-  pub is_large : (fault : EncodeFault) (outcome : Outcome) → IsSizeFault e g table k fault → TellsSizeOf fault outcome → IsOutcomeFor e table c outcome
-  is_large fault (Kept refute) size by = absurd by
-  is_large fault (Rejected (verdict.Size vars clauses)) size by = is_too_large vars clauses (subst (IsSizeFault e g table k) by size)
-  is_large fault (Rejected verdict.Holds) size by = absurd by
-  is_large fault (Rejected verdict.Seen) size by = absurd by
-  is_large fault (Rejected (verdict.Broken launch rule)) size by = absurd by
-  is_large fault (Rejected verdict.Listing) size by = absurd by
-  is_large fault (Rejected (verdict.Refutation j line why)) size by = absurd by
-  is_large fault (Rejected (verdict.Lemmas j line why)) size by = absurd by
 
   pub is_refused : (f : Formula) (line why : ℕ) → IsFormulaOf e g table k f → ¬ IsTooLarge f → IsFirstRefusal (IsEmptyOnlyLast lines.lines) f lines.lines line why → IsOutcomeFor e table c (Rejected (verdict.Refutation k line why))
   is_refused f line why formula within first =

@@ -1,13 +1,9 @@
 // The refutations of an answer, trimmed.
-ghost use Rattle.std.specs.Prelude.{ℕ, ◌≡◌, ◌<◌, ◌^◌, ◌++◌, length, IfOk, IfErr, OnOk, MatchOption, option_copied};
-ghost use Rattle.answer_check.specs.Reports.{verdict_words};
-ghost use Rattle.answer_texts.specs.AnswerLines.{goal_lines};
+ghost use Rattle.std.specs.Prelude.{ℕ, ◌<◌, ◌^◌, length, IfOk, IfErr, MatchOption};
 ghost use Rattle.answer_texts.specs.ReadAnswers.{IsAnswerFault};
 ghost use Rattle.answer_texts.specs.WellFormed.{IsAnswer, IsClaimed};
 ghost use Rattle.reports.specs.Errors.{IsErrorBy};
-ghost use Rattle.reports.specs.declared.statuses.Status.TheVariants.{Missing};
 ghost use Rattle.machine_table.specs.Tables.{IsTable};
-ghost use Rattle.text_core.specs.LineTexts.{line_text, lines_text};
 ghost use Rattle.refute_trim.specs.Outcomes.{IsPutTrimmed};
 ghost use Rattle.refute_trim.specs.TrimmedAnswers.{IsRejectedGoal, IsTrimReport, TrimsText};
 
@@ -17,30 +13,11 @@ use answer_texts::{
     AnswerText, Claimed, ClaimedRef, put_goal, put_head, read_answer, read_answers_are_well_formed,
     read_answers_print_their_text,
 };
-use cnf_core::Lines;
 use cycle_encoding::Encoding;
 use items::NoMemory;
 use machine_table::Table;
 use reports::{Report, Status, TextError};
 use std::alloc::Global;
-
-/// Appends the lines of a goal, with these in place of its refutation.
-fn put_with(
-    alloc: Global,
-    text: &mut Vec<u8>,
-    table: &Table,
-    goal: &Claimed,
-    refute: Option<&Lines>,
-) -> Result<(), NoMemory>
-    ensures { OnOk result (text.new.items ≡ text.old.items
-        ++ lines_text (goal_lines table.now (record goal.now { refute = option_copied refute.entry }))) }
-{
-    let lent = ClaimedRef {
-        refute,
-        ..goal.as_ref()
-    };
-    put_goal(alloc, text, table, &lent)
-}
 
 /// Appends the lines of a goal with its refutation trimmed, or tells why it is rejected.
 fn put_trimmed(
@@ -58,24 +35,15 @@ fn put_trimmed(
 {
     match trim_goal(alloc, encoding, table, goal)? {
         Outcome::Kept(refute) => {
-            put_with(alloc, text, table, goal, refute.as_ref())?;
+            let lent = ClaimedRef {
+                refute: refute.as_ref(),
+                ..goal.as_ref()
+            };
+            put_goal(alloc, text, table, &lent)?;
             Ok(None)
         }
         Outcome::Rejected(verdict) => Ok(Some(verdict)),
     }
-}
-
-/// The report on an answer of which this goal is rejected.
-fn rejection(alloc: Global, goal: &Claimed, verdict: Verdict) -> Result<Report, NoMemory>
-    ensures bytes { IfOk result (λ report. report.bytes.items ≡ line_text (verdict_words goal.now verdict)) }
-    ensures status { IfOk result (λ report. report.status ≡ Missing) }
-{
-    let mut bytes = Vec::new(alloc);
-    put_verdict(&mut bytes, goal, verdict)?;
-    Ok(Report {
-        bytes,
-        status: Status::Missing,
-    })
 }
 
 /// The answer with each goal's refutation trimmed, or the report on the first goal that is rejected.
@@ -96,7 +64,12 @@ fn trim_answer(alloc: Global, answer: &AnswerText) -> Result<Report, NoMemory>
     )?;
     for goal in answer.goals.as_slice() {
         if let Some(verdict) = put_trimmed(alloc, &mut text, encoding, &answer.table, goal)? {
-            return rejection(alloc, goal, verdict);
+            let mut bytes = Vec::new(alloc);
+            put_verdict(&mut bytes, goal, verdict)?;
+            return Ok(Report {
+                bytes,
+                status: Status::Missing,
+            });
         }
     }
     Ok(Report {

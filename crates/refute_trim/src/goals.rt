@@ -6,18 +6,18 @@ ghost use Rattle.answer_texts.specs.WellFormed.{FitsClaim, IsClaimed};
 ghost use Rattle.answer_texts.specs.declared.answers.Claimed.{Claimed as ClaimedOf};
 ghost use Rattle.graph_meaning.specs.WellFormed.{IsLaunchGraph};
 ghost use Rattle.machine_table.specs.Tables.{IsTable};
-ghost use Rattle.refute_trim.specs.Outcomes.{IsCheckedTrim, IsOutcomeFor, TellsSizeOf};
+ghost use Rattle.refute_trim.specs.Outcomes.{IsOutcomeFor};
 
 use crate::trim;
 use answer_check::Verdict;
 use answer_texts::{Claim, Claimed};
-use cnf_core::{Cnf, Lines};
+use cnf_core::Lines;
 use cycle_encoding::{EncodeFault, Encoding};
 use graph_meaning::LaunchGraph;
 use items::NoMemory;
 use machine_table::Table;
 use order_encoding::full_as;
-use refutation_check::{Marks, Rejected, check};
+use refutation_check::{Marks, check};
 use std::alloc::{AllocError, Global};
 
 /// What comes of a goal's refutation: the lines that are needed, if there are some, or what is wrong with it.
@@ -36,35 +36,8 @@ fn refuted_cycles(claim: &Claim) -> u32
     claim.as_ref().refuted_cycles()
 }
 
-/// Clauses that are too large are an outcome for the goal, unlike running out of memory.
-fn too_large(fault: EncodeFault) -> Result<Outcome, NoMemory>
-    ensures { IfOk result (TellsSizeOf fault) }
-{
-    match fault {
-        EncodeFault::Size { vars, clauses } => {
-            Ok(Outcome::Rejected(Verdict::Size { vars, clauses }))
-        }
-        EncodeFault::Memory => Err(AllocError),
-    }
-}
-
-/// The needed ones of lines that refute a formula, or the first line that is refused.
-fn trim_checked(
-    alloc: Global,
-    cnf: &Cnf,
-    lines: &Lines,
-) -> Result<Result<Lines, Rejected>, NoMemory>
-    requires few { length lines.now.lines < 2 ^ 29 }
-    ensures { IfOk result (IsCheckedTrim cnf.now lines.now) }
-{
-    let mut marks = Marks::new(alloc, cnf.vars())?;
-    match check(cnf, lines, &mut marks) {
-        Ok(()) => Ok(Ok(trim(alloc, cnf, lines)?)),
-        Err(rejected) => Ok(Err(rejected)),
-    }
-}
-
-/// Trims lines that are to refute the clauses for k cycles.
+/// Trims lines that are to refute the clauses for k cycles. Clauses that are too large are an outcome for the goal,
+/// unlike running out of memory.
 fn trim_lines(
     alloc: Global,
     encoding: Encoding,
@@ -82,10 +55,14 @@ fn trim_lines(
 {
     let encoded = match full_as(alloc, encoding, graph, table, k) {
         Ok(encoded) => encoded,
-        Err(fault) => return too_large(fault),
+        Err(EncodeFault::Size { vars, clauses }) => {
+            return Ok(Outcome::Rejected(Verdict::Size { vars, clauses }));
+        }
+        Err(EncodeFault::Memory) => return Err(AllocError),
     };
-    match trim_checked(alloc, &encoded.cnf, lines)? {
-        Ok(needed) => Ok(Outcome::Kept(Some(needed))),
+    let mut marks = Marks::new(alloc, encoded.cnf.vars())?;
+    match check(&encoded.cnf, lines, &mut marks) {
+        Ok(()) => Ok(Outcome::Kept(Some(trim(alloc, &encoded.cnf, lines)?))),
         Err(rejected) => Ok(Outcome::Rejected(Verdict::Refutation {
             k,
             line: rejected.line,

@@ -1,11 +1,9 @@
 // Which lines are needed.
-ghost use Rattle.std.specs.Prelude.{◌≡◌, ◌+◌, ◌≤◌, length, false, replicate, IfOk};
+ghost use Rattle.std.specs.Prelude.{◌≡◌, ◌+◌, ◌≤◌, length, false, replicate};
 ghost use Rattle.cnf_core.specs.Refutation.{AreAccepted, AreNames};
 ghost use Rattle.refute_trim.specs.Marks.{AreMarked, AreNeededMarks};
 
 use cnf_core::{Cnf, Line};
-use items::NoMemory;
-use std::alloc::Global;
 
 /// Marks the lemmas that hints name.
 fn mark_hints(hints: &[u32], clauses: u32, needed: &mut [bool])
@@ -19,8 +17,9 @@ fn mark_hints(hints: &[u32], clauses: u32, needed: &mut [bool])
     }
 }
 
-/// Marks the last line, and then, from the last line to the first, the hints of each marked one.
-fn mark_needed(cnf: &Cnf, lines: &[Line], needed: &mut [bool])
+/// Marks the needed lines: the last line, and then, from the last line to the first, the hints of each marked one. Each
+/// hint is looked at once at most.
+pub(crate) fn mark_needed(cnf: &Cnf, lines: &[Line], needed: &mut [bool])
     requires some { 1 ≤ length lines.now }
     requires accepted { AreAccepted cnf.now lines.now }
     requires none { needed.old ≡ replicate (length lines.now) false }
@@ -35,15 +34,4 @@ fn mark_needed(cnf: &Cnf, lines: &[Line], needed: &mut [bool])
             mark_hints(lines[at].hints.as_slice(), clauses, needed);
         }
     }
-}
-
-/// Whether each of the lines is needed. Each hint is looked at once at most.
-pub(crate) fn needed_lines(alloc: Global, cnf: &Cnf, lines: &[Line]) -> Result<Vec<bool>, NoMemory>
-    requires some { 1 ≤ length lines.now }
-    requires accepted { AreAccepted cnf.now lines.now }
-    ensures { IfOk result (λ marks. AreNeededMarks lines.now marks.items) }
-{
-    let mut needed = vec![in alloc; false; lines.len()]?;
-    mark_needed(cnf, lines, needed.as_mut_slice());
-    Ok(needed)
 }

@@ -6,7 +6,7 @@ ghost use Rattle.refute_trim.specs.Marks.{AreNewNumbers, IsWithinNumbers, places
 ghost use Rattle.refute_trim.specs.Trimmed.{AllButLastAreHints, AreTrimmed, IsLineFrom};
 
 use crate::laws::trimmed_lines_refute;
-use crate::needed::needed_lines;
+use crate::needed::mark_needed;
 use crate::numbers::{new_numbers, renumbered};
 use cnf_core::{Cnf, Line, Lines};
 use items::{Items, NoMemory};
@@ -34,15 +34,6 @@ fn kept_lines(
     Ok(kept)
 }
 
-fn trimmed(alloc: Global, cnf: &Cnf, lines: &[Line]) -> Result<Items<Line>, NoMemory>
-    requires { Refutes cnf.now lines.now }
-    ensures { IfOk result (λ new. AreTrimmed (length cnf.now.clauses) lines.now new) }
-{
-    let needed = needed_lines(alloc, cnf, lines)?;
-    let numbers = new_numbers(alloc, lines, &needed)?;
-    kept_lines(alloc, lines, &needed, cnf.clauses(), &numbers)
-}
-
 /// The lines of a refutation without those that aren't needed: the last line is needed, and so is each line that is a
 /// hint of a needed one. Lemmas stay as they are, and so do hints on clauses; lines, and hints on them, are numbered
 /// anew. The cost is linear in the lines and their hints.
@@ -53,6 +44,11 @@ pub fn trim(alloc: Global, cnf: &Cnf, lines: &Lines) -> Result<Lines, NoMemory>
     ensures hints { IfOk result (λ new. AllButLastAreHints new.lines) }
 {
     trimmed_lines_refute();
-    let lines = trimmed(alloc, cnf, lines.lines.as_slice())?;
-    Ok(Lines { lines })
+    let lines = lines.lines.as_slice();
+    let mut needed = vec![in alloc; false; lines.len()]?;
+    mark_needed(cnf, lines, needed.as_mut_slice());
+    let numbers = new_numbers(alloc, lines, &needed)?;
+    Ok(Lines {
+        lines: kept_lines(alloc, lines, &needed, cnf.clauses(), &numbers)?,
+    })
 }

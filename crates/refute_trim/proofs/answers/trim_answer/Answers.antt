@@ -5,9 +5,8 @@ use Rattle.answer_texts.specs.WellFormed.{IsClaimed}
 use Rattle.answer_texts.specs.declared.answers.Claimed.{Claimed}
 use Rattle.text_core.specs.LineTexts.{line_text, lines_text}
 use Rattle.refute_trim.specs.Outcomes.{IsPutTrimmed}
-use Rattle.reports.specs.declared.statuses.Status.TheVariants.{Missing}
-use Rattle.refute_trim.specs.TrimmedAnswers.{IsRejectedGoal, IsTrimReport}
-use Rattle.refute_trim.proofs.Claiming.{if_both, where_none, where_some}
+use Rattle.refute_trim.specs.TrimmedAnswers.{IsRejectedGoal}
+use Rattle.refute_trim.proofs.Claiming.{where_none, where_some}
 use Rattle.refute_trim.proofs.Reporting.{rejected_at, trimmed_all, trimmed_more, trimmed_none}
 use Rattle.refute_trim.proofs.answers.trim_answer.Goals as goal
 
@@ -51,9 +50,6 @@ returns-in-Some c =
     subst (λ e. IsRejectedGoal e a.table item c.in-Some.verdict) c.encoding_named-encoding.ensures
     (where_some (IsPutTrimmed c.encoding_named-encoding.result a.table item c.loop-goal.text.items c.put_trimmed.new.text.items)
     (IsRejectedGoal c.encoding_named-encoding.result a.table item) c.in_ok-verdict.field-0 c.in-Some.verdict c.in-Some.is c.in_ok-verdict.ensures) in
-    if_both (λ r. r.bytes.items ≡ line_text (verdict_words item c.in-Some.verdict)) (λ r. r.status ≡ Missing) (λ r. IsTrimReport a r.bytes.items r.status)
-    c.rejection.result
-    (λ r printed status. subst (IsTrimReport a r.bytes.items) (sym status)
-    (rejected_at a c.as_slice-goal-items.result.now c.loop-goal.goal-index c.loop-goal.text.items r.bytes.items item c.in-Some.verdict
-    c.as_slice-goal-items.ensures c.loop-goal-test.true c.goal-item.is c.loop-goal.invariant bad printed))
-    c.rejection.ensures.bytes c.rejection.ensures.status
+    rejected_at a c.as_slice-goal-items.result.now c.loop-goal.goal-index c.loop-goal.text.items _ item c.in-Some.verdict
+    c.as_slice-goal-items.ensures c.loop-goal-test.true c.goal-item.is c.loop-goal.invariant bad
+    (c.in_ok-put_verdict.ensures ∙ ap (λ (t : List ℕ). t ++ line_text (verdict_words item c.in-Some.verdict)) c.new-bytes.ensures.items)
