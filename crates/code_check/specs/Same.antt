@@ -1,5 +1,5 @@
--- When code and a goal without lets are the same in a graph: parts, in their order, each of which compares classes of terms. From
--- Denali (PLDI 2002), in whose graph terms of one class have one value.
+-- When code and a goal without lets are the same in a graph: parts, in their order, each of which compares classes of
+-- terms. From Denali (PLDI 2002), in whose graph terms of one class have one value.
 use Rattle.std.specs.Prelude.{◌≡◌, ℕ, ℤ, ◌+◌, ◌≤◌, if◌then◌else◌, List, [], ◌∷◌, ◌++◌, length, map, slice_get, Option, Some, None, All, Contains}
 use Rattle.std.specs.Option.{option_map_or}
 use Rattle.std.specs.List.{find}

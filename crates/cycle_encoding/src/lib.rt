@@ -3,10 +3,10 @@
 //! The first variables of a formula are those of the launches; a plan tells which is which.
 //!
 //! Proved: `encode_as` builds exactly these clauses (`formula`, `plan`), or gives their counts where one passes its
-//! limit, exactly there (`size`, `within`), before any list is built. There are three encodings, by one body: the
-//! wide one has a variable for each launch that ends in time; the narrow one and that with pins speak only of
-//! wanted classes and of launches whose operands can have come. `earliest_cycles` finds exactly which classes have come
-//! by each cycle up to 24, `wanted` which are wanted. What the values of these clauses show keeps the first four
+//! limit, exactly there (`size`, `within`), before any list is built. There are four encodings, by one body: the
+//! wide one has a variable for each launch that ends in time; the narrow one, that with pins and that by live ranges
+//! speak only of wanted classes and of launches whose operands can have come. `earliest_cycles` finds exactly which
+//! classes have come by each cycle up to 24, `wanted` which are wanted. What the values of these clauses show keeps the first four
 //! rules of a schedule, and the fifth for targets without a pin; each list of launches that keeps these has a part
 //! that does and is shown (`cycle_clauses_say_rules`, `parts_keep_rules`). An encoding gives a graph and a table
 //! one list at most (`each_encoding_has_one_list`).

@@ -80,8 +80,8 @@ fn trim_answer(alloc: Global, answer: &AnswerText) -> Result<Report, NoMemory>
 
 /// Trims the refutations of the answer that a text is; all its other lines stay as they are, lemmas too, which aren't
 /// tested. Where the lines of a goal are to refute clauses that are too large, or don't refute them, the line of the
-/// first such goal is all that is written, and the status is `Missing`. The clauses are built from the printed graphs and
-/// table, for one goal at a time; the cost beside that is linear in the text.
+/// first such goal is all that is written, and the status is `Missing`. The clauses are built from the printed graphs
+/// and table, for one goal at a time; the cost beside that is linear in the text.
 pub fn trim_text(alloc: Global, text: &[u8]) -> Result<Report, TextError>
     requires few { length text.now < 2 ^ 29 }
     ensures trimmed { IfOk result (λ report. TrimsText text.now report.bytes.items report.status) }

@@ -2,15 +2,15 @@
 ghost use Rattle.std.specs.Prelude.{◌≡◌, ◌≤◌, ◌<◌, ◌^◌, ℕ, length, IfOk, Some};
 ghost use Rattle.schedule_meaning.specs.Limits.{most_cycles};
 ghost use Rattle.answer_texts.specs.AnswerLines as format;
-ghost use Rattle.answer_texts.specs.WellFormed.{FitsClaim, IsClaimed};
+ghost use Rattle.answer_texts.specs.WellFormed.{IsClaimed};
 ghost use Rattle.answer_texts.specs.declared.answers.Claimed.{Claimed as ClaimedOf};
 ghost use Rattle.graph_meaning.specs.WellFormed.{IsLaunchGraph};
 ghost use Rattle.machine_table.specs.Tables.{IsTable};
 ghost use Rattle.refute_trim.specs.Outcomes.{IsOutcomeFor};
 
 use crate::trim;
-use answer_check::Verdict;
-use answer_texts::{Claim, Claimed};
+use answer_check::{Verdict, refuted_cycles};
+use answer_texts::Claimed;
 use cnf_core::Lines;
 use cycle_encoding::{EncodeFault, Encoding};
 use graph_meaning::LaunchGraph;
@@ -25,15 +25,6 @@ use std::alloc::{AllocError, Global};
 pub(crate) enum Outcome {
     Kept(Option<Lines>),
     Rejected(Verdict),
-}
-
-/// The number of cycles of the clauses that a claim's lines are to refute.
-fn refuted_cycles(claim: &Claim) -> u32
-    requires { FitsClaim claim.now }
-    ensures value { result ≡ format.refuted_cycles claim.now }
-    ensures few { result ≤ most_cycles }
-{
-    claim.as_ref().refuted_cycles()
 }
 
 /// Trims lines that are to refute the clauses for k cycles. Clauses that are too large are an outcome for the goal,

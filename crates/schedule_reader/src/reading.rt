@@ -10,7 +10,8 @@ use items::{Items, NoMemory};
 use schedule_meaning::{Launch, Schedule};
 use std::alloc::Global;
 
-/// The launches whose variables are true, by cycle, slot, row and where they go, the pool first. The value of variable v stands at v - 1.
+/// The launches whose variables are true, by cycle, slot, row and where they go, the pool first. The value of variable v
+/// stands at v - 1.
 pub fn read_off(alloc: Global, plan: &VarPlan, values: &[bool]) -> Result<Schedule, NoMemory>
     requires { length plan.now.launches ≤ length values.now }
     ensures same { IfOk result (λ s.
