@@ -2,33 +2,26 @@
 ghost use Rattle.std.specs.Prelude.{◌≡◌, ◌++◌, OnOk, length, map};
 ghost use Rattle.proc_goal.specs.Views.{block_view, proc_view};
 ghost use Rattle.proc_link.specs.LinkedLines as format;
-ghost use Rattle.text_core.specs.LineTexts.{line_text, lines_text};
+ghost use Rattle.text_core.specs.LineTexts.{lines_text};
 
 use crate::links::Linked;
 use answer_texts::put_codes;
 use items::NoMemory;
 use proc_goal::{Block, Proc};
 use std::alloc::Global;
-use text_core::{Name, put, put_number, put_numbered, put_word};
+use text_core::{put, put_number, put_numbered, put_word};
 
-/// `block NAME START`
-fn put_start(text: &mut Vec<u8>, name: &Name, start: u32) -> Result<(), NoMemory>
-    ensures { OnOk result (text.new.items ≡ text.old.items ++ line_text (format.block_words name.now start)) }
-{
-    put(text, b"block")?;
-    put_word(text, name.bytes())?;
-    put_number(text, u64::from(start))?;
-    put(text, b"\n")
-}
-
-/// The line of each block, in order.
+/// The line `block NAME START` of each block, in order.
 fn put_starts(text: &mut Vec<u8>, blocks: &[Block], starts: &[u32]) -> Result<(), NoMemory>
     requires { length starts.now ≡ length blocks.now }
     ensures { OnOk result (text.new.items
         ≡ text.old.items ++ lines_text (format.block_lines (map block_view blocks.now) starts.now)) }
 {
     for (at, block) in blocks.iter().enumerate() {
-        put_start(text, &block.name, starts[at])?;
+        put(text, b"block")?;
+        put_word(text, block.name.bytes())?;
+        put_number(text, u64::from(starts[at]))?;
+        put(text, b"\n")?;
     }
     Ok(())
 }

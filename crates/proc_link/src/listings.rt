@@ -19,20 +19,15 @@ fn wheres(alloc: Global, wheres: &[Where]) -> Result<Items<Where>, NoMemory>
     Ok(copies)
 }
 
-fn copied(alloc: Global, listing: &Listing) -> Result<Listing, NoMemory>
-    ensures { IfOk result (λ copy. copy ≡ listing.now) }
-{
-    let items = Items::from_slice(alloc, listing.items.as_slice())?;
-    let wheres = wheres(alloc, listing.wheres.as_slice())?;
-    Ok(Listing { items, wheres })
-}
-
 /// The listing of a result, if it has one.
 fn listing(alloc: Global, answered: &Answered) -> Result<Option<Listing>, NoMemory>
     ensures { IfOk result (λ found. found ≡ answers.listing_of answered.now) }
 {
     match answered {
-        Answered::Scheduled(found) => Ok(Some(copied(alloc, &found.listing)?)),
+        Answered::Scheduled(found) => Ok(Some(Listing {
+            items: Items::from_slice(alloc, found.listing.items.as_slice())?,
+            wheres: wheres(alloc, found.listing.wheres.as_slice())?,
+        })),
         Answered::Nowhere(_) => Ok(None),
         Answered::SpentConflicts(_) => Ok(None),
         Answered::SpentSize(_) => Ok(None),

@@ -8,8 +8,7 @@ ghost use Rattle.proc_goal.specs.ProcGrammar.{IsFirstProcFault};
 ghost use Rattle.reports.specs.Errors.{IsErrorBy};
 ghost use Rattle.proc_goal.specs.Views.{proc_view};
 ghost use Rattle.proc_goal.specs.WellFormed.{IsProc};
-ghost use Rattle.proc_link.specs.Appended.{AppendsBehind, AppendsLinked};
-ghost use Rattle.proc_link.specs.Follows.{AreListings};
+ghost use Rattle.proc_link.specs.Appended.{AppendsBehind};
 ghost use Rattle.proc_link.specs.ProcAnswers.{AnswersBlocks, AnswersProc};
 
 use crate::line_printing::put_linked;
@@ -18,24 +17,9 @@ use crate::listings::all_listings;
 use denali_run::{Answered, Settings, answer_text, right_answers_are_read, solve_input};
 use items::NoMemory;
 use proc_goal::{Proc, input_of, read};
-use register_assign::{Listing, listings_have_words};
+use register_assign::listings_have_words;
 use reports::{Report, TextError};
 use std::alloc::Global;
-
-/// Appends the lines of the linked words.
-fn put_blocks(
-    alloc: Global,
-    text: &mut Vec<u8>,
-    proc: &Proc,
-    listings: &[Listing],
-) -> Result<(), NoMemory>
-    requires proc { IsProc (proc_view proc.now) }
-    requires listings { AreListings (proc_view proc.now) listings.now }
-    ensures { OnOk result (AppendsLinked (proc_view proc.now) listings.now text.old.items text.new.items) }
-{
-    let linked = link(alloc, proc, listings)?;
-    put_linked(alloc, text, proc, &linked)
-}
 
 /// Appends the lines of the linked words, if each block is scheduled.
 fn put_behind(
@@ -51,7 +35,10 @@ fn put_behind(
 {
     listings_have_words();
     match all_listings(alloc, results)? {
-        Some(listings) => put_blocks(alloc, text, proc, &listings),
+        Some(listings) => {
+            let linked = link(alloc, proc, &listings)?;
+            put_linked(alloc, text, proc, &linked)
+        }
         None => Ok(()),
     }
 }
