@@ -3,17 +3,21 @@ use Rattle.std.proofs.Common.{◌≡◌, ℕ, zero, suc, ◌+◌, ◌<◌, ◌�
 use Rattle.std.specs.Prelude.{All}
 use Rattle.std.specs.List.{AllZip}
 use Rattle.std.proofs.lemmas.Grind.{flat_map-append}
-use Rattle.std.proofs.lemmas.List.{append-nil, append_assoc, length-map, length-take-le, map-append, take_all, take_more}
+use Rattle.std.proofs.lemmas.List.{append-nil, map-append, take_all, take_more}
 use Rattle.std.proofs.lemmas.List.Concat.{flat_map-cons}
 use Rattle.std.proofs.lemmas.List.Elements.{All-head, All-tail}
-use Rattle.code_lift.specs.Views.{LiftTree, lift_view}
+use Rattle.std.proofs.lemmas.Slice.Zip.{AllZip-long}
+use Rattle.machine_table.specs.declared.tables.Table.{Table}
+use Rattle.code_lift.specs.LiftGrammar.{ReadsLifts}
+use Rattle.code_lift.specs.Views.{LiftTree, lift_view, lifts_view}
 use Rattle.code_lift.specs.WellFormed.{IsLift}
 use Rattle.code_lift.specs.declared.lifts.Lift.{Lift}
+use Rattle.code_lift.specs.declared.lifts.Lifts.{Lifts}
 use Rattle.reports.specs.Statuses.{greater}
 use Rattle.reports.specs.declared.statuses.Status.{Status}
 use Rattle.reports.specs.declared.statuses.Status.TheVariants.{Done}
-use Rattle.text_core.specs.LineTexts.{Words, line_text, lines_text}
-use Rattle.code_improve.specs.CycleCounts.{count_lines, count_status, count_words, greatest_count_status}
+use Rattle.text_core.specs.LineTexts.{line_text, lines_text}
+use Rattle.code_improve.specs.CycleCounts.{CountsCycles, IsCountOf, count_lines, count_status, count_words, greatest_count_status}
 use Rattle.code_improve.specs.declared.counting.CycleCount.{CycleCount}
 
 -- ---- the status
@@ -21,14 +25,6 @@ use Rattle.code_improve.specs.declared.counting.CycleCount.{CycleCount}
 fold_append : {A B : Type 0} (f : A → B → A) (a : A) (xs : List B) (x : B) → fold f a (xs ++ x ∷ []) ≡ f (fold f a xs) x
 fold_append f a [] x = refl
 fold_append f a (y ∷ ys) x = fold_append f (f a y) ys x
-
-pub status_more : (counts : List CycleCount) (i : ℕ) (d : CycleCount) (status new : Status) → i < length counts
-    → status ≡ greatest_count_status (take i counts) → new ≡ greater status (count_status (get_or counts i d))
-    → new ≡ greatest_count_status (take (i + 1) counts)
-status_more counts i d status new lt so_far is =
-    is ∙ ap (λ s. greater s (count_status (get_or counts i d))) so_far
-    ∙ sym (ap greatest_count_status (take_more counts i d lt)
-    ∙ fold_append (λ s c. greater s (count_status c)) Done (take i counts) (get_or counts i d))
 
 -- ---- the lines
 
@@ -38,33 +34,6 @@ count_after [] [] l c same = refl
 count_after [] (d ∷ cs) l c same = absurd (omega (arith, same))
 count_after (m ∷ ls) [] l c same = absurd (omega (arith, same))
 count_after (m ∷ ls) (d ∷ cs) l c same = ap (λ ws. count_words m.name d ∷ ws) (count_after ls cs l c (omega (arith, same)))
-
-module _ (lifts : List Lift) (counts : List CycleCount) (many : length counts ≡ length lifts) where
-  abbrev lines : ℕ → List Words
-  lines i = count_lines (map lift_view (take i lifts)) (take i counts)
-
-  pub lines_more : (i : ℕ) (l : Lift) (c : CycleCount) (old text new : List ℕ) → i < length lifts → text ≡ old ++ lines_text (lines i)
-      → new ≡ text ++ line_text (count_words (get_or lifts i l).name (get_or counts i c))
-      → new ≡ old ++ lines_text (lines (i + 1))
-  lines_more i l c old text new inside so_far printed =
-      let one = count_words (get_or lifts i l).name (get_or counts i c) in
-      let same : length (map lift_view (take i lifts)) ≡ length (take i counts) =
-      length-map (take i lifts) lift_view ∙ length-take-le i lifts (omega (arith, inside))
-      ∙ sym (length-take-le i counts (omega (arith, inside, many))) in
-      let views : map lift_view (take (i + 1) lifts) ≡ map lift_view (take i lifts) ++ lift_view (get_or lifts i l) ∷ [] =
-      ap (map lift_view) (take_more lifts i l inside) ∙ map-append lift_view (take i lifts) (get_or lifts i l ∷ []) in
-      let whole : lines (i + 1) ≡ lines i ++ one ∷ [] =
-      (λ j. count_lines (views j) (take_more counts i c (omega (arith, inside, many)) j))
-      ∙ count_after (map lift_view (take i lifts)) (take i counts) (lift_view (get_or lifts i l)) (get_or counts i c) same in
-      printed ∙ ap (λ t. t ++ line_text one) so_far ∙ append_assoc old (lines_text (lines i)) (line_text one)
-      ∙ ap (λ t. old ++ (lines_text (lines i) ++ t)) (sym (flat_map-cons line_text one [] ∙ append-nil (line_text one)))
-      ∙ ap (λ t. old ++ t) (sym (flat_map-append line_text (lines i) (one ∷ [])))
-      ∙ ap (λ ls. old ++ lines_text ls) (sym whole)
-
-  pub lines_all : (i : ℕ) (old text : List ℕ) → length lifts ≤ i → text ≡ old ++ lines_text (lines i)
-      → text ≡ old ++ lines_text (count_lines (map lift_view lifts) counts)
-  lines_all i old text past h =
-      h ∙ (λ j. old ++ lines_text (count_lines (map lift_view (take_all i lifts past j)) (take_all i counts (omega (arith, past, many)) j)))
 
 -- ---- what each says
 
@@ -83,17 +52,56 @@ one_more P [] (d ∷ cs) l c z p = absurd z
 one_more P (m ∷ ls) [] l c z p = absurd z
 one_more P (m ∷ ls) (d ∷ cs) l c z p = (z.0, one_more P ls cs l c z.1 p)
 
-pub counted_more : (P : LiftTree → CycleCount → Type 0) (lifts : List Lift) (i : ℕ) (l : Lift) (c : CycleCount)
-    (cs new : List CycleCount) → i < length lifts → l ≡ get_or lifts i l → new ≡ cs ++ c ∷ []
-    → AllZip P (map lift_view (take i lifts)) cs → P (lift_view l) c → AllZip P (map lift_view (take (i + 1) lifts)) new
-counted_more P lifts i l c cs new lt is pushed so_far one =
-    let views : map lift_view (take (i + 1) lifts) ≡ map lift_view (take i lifts) ++ lift_view l ∷ [] =
-    ap (map lift_view) (take_more lifts i l lt) ∙ map-append lift_view (take i lifts) (get_or lifts i l ∷ [])
-    ∙ ap (λ (x : Lift). map lift_view (take i lifts) ++ lift_view x ∷ []) (sym is) in
-    subst (λ (ls : List LiftTree). AllZip P ls new) (sym views)
-    (subst (λ (ds : List CycleCount). AllZip P (map lift_view (take i lifts) ++ lift_view l ∷ []) ds) (sym pushed)
-    (one_more P (map lift_view (take i lifts)) cs (lift_view l) c so_far one))
+-- the first lifts have true counts, whose lines and whose greatest status these are
+pub record AreCountedTo (table : Table) (cycles conflicts : ℕ) (lifts : List Lift) (i : ℕ) (bytes : List ℕ) (ending : Status)
+    : Type 0 where
+  pub counts : List CycleCount
+  pub each : AllZip (IsCountOf table cycles conflicts) (map lift_view (take i lifts)) counts
+  pub bytes_are : bytes ≡ lines_text (count_lines (map lift_view (take i lifts)) counts)
+  pub status_is : ending ≡ greatest_count_status counts
 
-pub all_counted : (P : LiftTree → CycleCount → Type 0) (lifts : List Lift) (i : ℕ) (cs : List CycleCount) → length lifts ≤ i
-    → AllZip P (map lift_view (take i lifts)) cs → AllZip P (map lift_view lifts) cs
-all_counted P lifts i cs past z = subst (λ (ls : List Lift). AllZip P (map lift_view ls) cs) (take_all i lifts past) z
+pub counted_none : (table : Table) (cycles conflicts : ℕ) (lifts : List Lift) (bytes : List ℕ) → bytes ≡ []
+    → AreCountedTo table cycles conflicts lifts 0 bytes Done
+counted_none table cycles conflicts lifts bytes is = record { counts = []; each = tt; bytes_are = is; status_is = refl }
+
+pub counted_more : (table : Table) (cycles conflicts : ℕ) (lifts : List Lift) (i : ℕ) (l : Lift) (c : CycleCount)
+    (old new : List ℕ) (before after : Status) → i < length lifts → l ≡ get_or lifts i l
+    → AreCountedTo table cycles conflicts lifts i old before → IsCountOf table cycles conflicts (lift_view l) c
+    → new ≡ old ++ line_text (count_words l.name c) → after ≡ greater before (count_status c)
+    → AreCountedTo table cycles conflicts lifts (i + 1) new after
+counted_more table cycles conflicts lifts i l c old new before after lt is so_far one printed greatest =
+    let P = IsCountOf table cycles conflicts in
+    let front = map lift_view (take i lifts) in
+    let counts = so_far.counts in
+    let words = count_words l.name c in
+    let views : map lift_view (take (i + 1) lifts) ≡ front ++ lift_view l ∷ [] =
+    ap (map lift_view) (take_more lifts i l lt) ∙ map-append lift_view (take i lifts) (get_or lifts i l ∷ [])
+    ∙ ap (λ (x : Lift). front ++ lift_view x ∷ []) (sym is) in
+    let same : length front ≡ length counts = sym (AllZip-long P front counts so_far.each) in
+    record {
+      counts = counts ++ c ∷ [];
+      each = subst (λ (ls : List LiftTree). AllZip P ls (counts ++ c ∷ [])) (sym views)
+          (one_more P front counts (lift_view l) c so_far.each one);
+      bytes_are = printed ∙ ap (λ (b : List ℕ). b ++ line_text words) so_far.bytes_are
+          ∙ ap (λ (b : List ℕ). lines_text (count_lines front counts) ++ b)
+          (sym (flat_map-cons line_text words [] ∙ append-nil (line_text words)))
+          ∙ sym (flat_map-append line_text (count_lines front counts) (words ∷ []))
+          ∙ ap lines_text (sym (count_after front counts (lift_view l) c same))
+          ∙ ap (λ (ls : List LiftTree). lines_text (count_lines ls (counts ++ c ∷ []))) (sym views);
+      status_is = greatest ∙ ap (λ s. greater s (count_status c)) so_far.status_is
+          ∙ sym (fold_append (λ s c. greater s (count_status c)) Done counts c);
+    }
+
+pub all_counted : (text : List ℕ) (lifts : Lifts) (cycles conflicts i : ℕ) (bytes : List ℕ) (ending : Status)
+    → ReadsLifts text (lifts_view lifts) → length lifts.lifts ≤ i
+    → AreCountedTo lifts.table cycles conflicts lifts.lifts i bytes ending → CountsCycles cycles conflicts text bytes ending
+all_counted text lifts cycles conflicts i bytes ending reads past all =
+    let whole = take_all i lifts.lifts past in
+    record {
+      lifts = lifts_view lifts;
+      reads = reads;
+      counts = all.counts;
+      each = subst (λ (ls : List Lift). AllZip (IsCountOf lifts.table cycles conflicts) (map lift_view ls) all.counts) whole all.each;
+      bytes_are = all.bytes_are ∙ ap (λ (ls : List Lift). lines_text (count_lines (map lift_view ls) all.counts)) whole;
+      status_is = all.status_is;
+    }

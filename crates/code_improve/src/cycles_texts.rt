@@ -1,20 +1,15 @@
 // The work of `cycles`.
-ghost use Rattle.std.specs.Prelude.{◌≡◌, ◌++◌, ◌∷◌, [], ◌<◌, ◌≤◌, ◌^◌, All, IfErr, IfOk, OnOk, decimal, length, map};
-ghost use Rattle.std.specs.List.{AllZip};
+ghost use Rattle.std.specs.Prelude.{◌≡◌, ◌++◌, ◌∷◌, [], ◌<◌, ◌≤◌, ◌^◌, IfErr, IfOk, OnOk, decimal, length};
 ghost use Rattle.code_improve.specs.CycleCounts as format;
-ghost use Rattle.code_improve.specs.CycleCounts.{CountsCycles, IsCountOf};
+ghost use Rattle.code_improve.specs.CycleCounts.{CountsCycles};
 ghost use Rattle.code_lift.specs.LiftGrammar.{IsFirstLiftFault};
-ghost use Rattle.code_lift.specs.Views.{lift_view};
-ghost use Rattle.code_lift.specs.WellFormed.{IsLift};
 ghost use Rattle.reports.specs.Errors.{IsErrorBy};
-ghost use Rattle.machine_table.specs.Tables.{IsTable};
 ghost use Rattle.schedule_meaning.specs.Limits.{most_cycles};
-ghost use Rattle.text_core.specs.LineTexts.{line_text, lines_text};
+ghost use Rattle.text_core.specs.LineTexts.{line_text};
 
 use crate::counting::{CycleCount, count_cycles};
-use code_lift::{Lift, read};
+use code_lift::read;
 use items::NoMemory;
-use machine_table::Table;
 use reports::{Report, Status, TextError};
 use std::alloc::Global;
 use text_core::{Name, put, put_number, put_word};
@@ -51,51 +46,6 @@ fn status_of(count: CycleCount) -> Status
     }
 }
 
-/// Each lift's count, in their order.
-fn counts(
-    alloc: Global,
-    table: &Table,
-    lifts: &[Lift],
-    cycles: u32,
-    conflicts: u32,
-) -> Result<Vec<CycleCount>, NoMemory>
-    requires table { IsTable table.now }
-    requires lifts { All IsLift (map lift_view lifts.now) }
-    requires cycles { cycles ≤ most_cycles }
-    requires conflicts { (1 ≤ conflicts) × (conflicts ≤ 1000000) }
-    ensures { IfOk result (λ counts. AllZip (IsCountOf table.now cycles conflicts) (map lift_view lifts.now) counts.items) }
-{
-    let mut counts = Vec::new(alloc);
-    for lift in lifts {
-        counts.push(count_cycles(alloc, table, lift, cycles, conflicts)?)?;
-    }
-    Ok(counts)
-}
-
-/// The line of each lift.
-fn put_counts(text: &mut Vec<u8>, lifts: &[Lift], counts: &[CycleCount]) -> Result<(), NoMemory>
-    requires { length counts.now ≡ length lifts.now }
-    ensures { OnOk result (text.new.items
-        ≡ text.old.items ++ lines_text (format.count_lines (map lift_view lifts.now) counts.now)) }
-{
-    for (at, lift) in lifts.iter().enumerate() {
-        put_count(text, &lift.name, counts[at])?;
-    }
-    Ok(())
-}
-
-/// The status with the greatest code that the counts ask for.
-#[tactic(auto, using(crate::proofs::Counted::status_more))]
-fn greatest_status(counts: &[CycleCount]) -> Status
-    ensures { result ≡ format.greatest_count_status counts.now }
-{
-    let mut greatest = Status::Done;
-    for count in counts {
-        greatest = greatest.or_greater(status_of(*count));
-    }
-    greatest
-}
-
 /// A line for each lift of a text: in how many cycles its words can be done, or what was found of that.
 pub fn cycles_text(
     alloc: Global,
@@ -111,17 +61,13 @@ pub fn cycles_text(
     ensures error { IfErr result (IsErrorBy (IsFirstLiftFault text.now)) }
 {
     let lifts = read(alloc, text)?;
-    let counts = counts(
-        alloc,
-        &lifts.table,
-        lifts.lifts.as_slice(),
-        cycles,
-        conflicts,
-    )?;
+    let table = &lifts.table;
     let mut bytes = Vec::new(alloc);
-    put_counts(&mut bytes, lifts.lifts.as_slice(), &counts)?;
-    Ok(Report {
-        bytes,
-        status: greatest_status(&counts),
-    })
+    let mut status = Status::Done;
+    for lift in lifts.lifts.as_slice() {
+        let count = count_cycles(alloc, table, lift, cycles, conflicts)?;
+        put_count(&mut bytes, &lift.name, count)?;
+        status = status.or_greater(status_of(count));
+    }
+    Ok(Report { bytes, status })
 }
