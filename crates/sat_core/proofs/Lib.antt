@@ -2,6 +2,7 @@ pub mod Advancing
 pub mod Agreeing
 pub mod Attaching
 pub mod Bound
+pub mod Choices
 pub mod Choosing
 pub mod Deciding
 mod Ending
@@ -9,7 +10,9 @@ pub mod Exchanging
 pub mod Holding
 pub mod Leading
 pub mod Marking
+pub mod Offering
 pub mod Picking
+pub mod Playing
 pub mod Quiet
 pub mod Renewing
 pub mod Resolving

@@ -1,15 +1,15 @@
 -- The list of free variables: the loop that makes it, and what is known of its members.
-use Rattle.std.proofs.Common.{◌≡◌, ℕ, ◌+◌, ◌-◌, ◌<◌, ◌≤◌, Bool, true, false, List, [], ◌∷◌, ◌++◌, length, map, get_or, refl, sym, ap, ◌∙◌, subst, arith, inl, inr, suc, zero, Option, Some, None, append-nil}
+use Rattle.std.proofs.Common.{◌≡◌, ℕ, ◌+◌, ◌-◌, ◌<◌, ◌≤◌, Bool, true, false, List, [], ◌∷◌, ◌++◌, length, map, get_or, refl, sym, ap, ◌∙◌, arith, inl, inr, suc, zero, Option, Some, None, append-nil}
 use Rattle.std.specs.Prelude.{is_none}
 use Rattle.std.specs.List.{All, filter, range_with_len}
 use Rattle.std.proofs.lemmas.Bool.{cases_Bool, cond-true, cond-false, false≢true}
-use Rattle.std.proofs.lemmas.List.{get_or-map, length-map, get_or_default}
+use Rattle.std.proofs.lemmas.List.{get_or-map}
 use Rattle.std.proofs.lemmas.List.Elements.{All-filter, All-map, filter_passes}
 use Rattle.std.proofs.lemmas.List.FromFn.{filter_of_map_range_with_len_more, get_or-range_with_len, length-range_with_len, length-map-range_with_len}
 use Rattle.sat_core.specs.declared.trail.Value.{Value}
 use Rattle.sat_core.specs.declared.trail.Value.TheVariants.{Unassigned}
 use Rattle.sat_core.specs.Steps.{is_unassigned, assignment_of}
-use Rattle.sat_core.specs.Picks.{free_list, scores_of}
+use Rattle.sat_core.specs.Picks.{free_list}
 
 none-true : (o : Option Bool) → is_none o ≡ true → o ≡ None
 none-true None e = refl
@@ -69,28 +69,3 @@ none-free values x empty low high free =
     get_or-map (λ i. i + 1) (range_with_len 0 (length values)) (x - 1) 0 0 (omega (arith, length-range_with_len 0 (length values)))
     ∙ ap (λ (i : ℕ). i + 1) (get_or-range_with_len 0 (length values) (x - 1) 0 (omega arith)) ∙ omega arith in
     filter-some p xs (x - 1) 0 (omega arith) (ap p is ∙ ap is_none free) empty
-
--- what a decision knows of its variable
-pub record IsPicked (values : List Value) (place var : ℕ) : Type 0 where
-  pub within : place < length (free_list values)
-  pub is : var ≡ get_or (free_list values) place 0
-  pub above : 1 ≤ var
-  pub exists : var ≤ length values
-  pub free : assignment_of values var ≡ None
-
-pub picked-at : (values : List Value) (counts free scores : List ℕ) (place var : ℕ) → free ≡ free_list values → scores ≡ scores_of counts values → place < length scores → var ≡ get_or free place var → IsPicked values place var
-picked-at values counts free scores place var is is-scores few at =
-    let size = ap length is-scores ∙ length-map (free_list values) (λ x. get_or counts (x - 1) 0) in
-    let few' : place < length (free_list values) = omega arith in
-    let here : var ≡ get_or (free_list values) place 0 = at ∙ ap (λ (xs : List ℕ). get_or xs place var) is ∙ get_or_default (free_list values) place var 0 few' in
-    let h = free-at values place 0 few' in
-    record {
-      within = few';
-      is = here;
-      above = subst (λ (x : ℕ). 1 ≤ x) (sym here) h.0;
-      exists = subst (λ (x : ℕ). x ≤ length values) (sym here) h.1;
-      free = subst (λ (x : ℕ). assignment_of values x ≡ None) (sym here) h.2;
-    }
-
-pub free-exist : (values : List Value) → All (λ x. (1 ≤ x) × (x ≤ length values)) (free_list values)
-free-exist values k d few = (let at = free-at values k d few in (at.0, at.1))

@@ -1,5 +1,5 @@
 -- The walk back along the trail: a step that isn't needed, that is kept, that is resolved.
-use Rattle.std.proofs.Common.{◌≡◌, ◌≢◌, ℕ, ◌+◌, ◌-◌, ◌<◌, ◌≤◌, ◌⊎◌, Bool, true, false, not, List, [], ◌∷◌, ◌++◌, length, take, set, get_or, refl, sym, ap, ◌∙◌, subst, arith, inl, inr, Option, Some, None}
+use Rattle.std.proofs.Common.{◌||◌, ◌≡◌, ◌≢◌, ℕ, ◌+◌, ◌-◌, ◌<◌, ◌≤◌, ◌⊎◌, Bool, true, false, not, List, [], ◌∷◌, ◌++◌, length, take, set, get_or, refl, sym, ap, ◌∙◌, subst, arith, inl, inr, Option, Some, None}
 use Rattle.std.specs.Prelude.{is_none, nat_le, ◌&&◌}
 use Rattle.std.specs.List.{All}
 use Rattle.std.proofs.lemmas.Bool.{cases_Bool, cases_eq, cases_lt, cond-true, cond-false, false≢true}
@@ -356,27 +356,31 @@ pub leads-end : (clauses : List (List Lit)) (n : ℕ) (steps : List Step) (i : �
 leads-end clauses n steps i a hints conflict low h leads t covers rest =
     leads t (λ k d below few mark. absurd (false≢true (sym (all-clear i a.lowest a.seen.items low h.clear h.below k) ∙ mark))) (λ x free. rest x refl)
 
-pub stays-end : (clauses : List (List Lit)) (n : ℕ) (steps : List Step) (i first : ℕ) (a : Analysis) → IsWalked clauses n steps i a
+or-second : (a b : Bool) → (a || b) ≡ false → b ≡ false
+or-second true b e = absurd (false≢true (sym e))
+or-second false b e = e
+
+pub stays-end : (clauses : List (List Lit)) (n : ℕ) (steps : List Step) (i first : ℕ) (restarts : Bool) (a : Analysis) → IsWalked clauses n steps i a
     → ((k : ℕ) (d : Step) → k < first → (get_or steps k d).reason ≢ None) → IsBackjump steps i a.backjump a.lits.items
-    → IsBackjump steps 0 (backjump_at_end first (length a.lits.items) a.backjump) a.lits.items
-stays-end clauses n steps i first a h before stays k d low below few decides =
-    elim (cases_Bool (nat_le (length a.lits.items) 1)) [
+    → IsBackjump steps 0 (backjump_at_end first restarts (length a.lits.items) a.backjump) a.lits.items
+stays-end clauses n steps i first restarts a h before stays k d low below few decides =
+    elim (cases_Bool (restarts || nat_le (length a.lits.items) 1)) [
       | inl short ↦
-          (let at = cond-true (nat_le (length a.lits.items) 1) first a.backjump short in
+          (let at = cond-true (restarts || nat_le (length a.lits.items) 1) first a.backjump short in
           absurd (before k d (omega arith) decides))
       | inr long ↦
-          (let at = cond-false (nat_le (length a.lits.items) 1) first a.backjump long in
+          (let at = cond-false (restarts || nat_le (length a.lits.items) 1) first a.backjump long in
           elim (cases_lt k i) [
             | inr after ↦ stays k d after (omega arith) few decides
             | inl earlier ↦
-                open-two (trail_values (take k steps)) a.lits.items (not-le (length a.lits.items) long) h.differ
+                open-two (trail_values (take k steps)) a.lits.items (not-le (length a.lits.items) (or-second restarts (nat_le (length a.lits.items) 1) long)) h.differ
                 (All-weaker (λ (l : Lit). trail_values (take i steps) l.var ≡ None) (λ (l : Lit). trail_values (take k steps) l.var ≡ None) (λ l none. free-before steps k i l.var (omega arith) none) a.lits.items h.free)
           ])
     ]
 
-pub back-end : (steps : List Step) (first count backjump : ℕ) → IsDecisionOrEnd steps first → IsDecisionOrEnd steps backjump → IsDecisionOrEnd steps (backjump_at_end first count backjump)
-back-end steps first count backjump is-first is =
-    elim (cases_Bool (nat_le count 1)) [
-      | inl short ↦ subst (IsDecisionOrEnd steps) (sym (cond-true (nat_le count 1) first backjump short)) is-first
-      | inr long ↦ subst (IsDecisionOrEnd steps) (sym (cond-false (nat_le count 1) first backjump long)) is
+pub back-end : (steps : List Step) (first : ℕ) (restarts : Bool) (count backjump : ℕ) → IsDecisionOrEnd steps first → IsDecisionOrEnd steps backjump → IsDecisionOrEnd steps (backjump_at_end first restarts count backjump)
+back-end steps first restarts count backjump is-first is =
+    elim (cases_Bool (restarts || nat_le count 1)) [
+      | inl short ↦ subst (IsDecisionOrEnd steps) (sym (cond-true (restarts || nat_le count 1) first backjump short)) is-first
+      | inr long ↦ subst (IsDecisionOrEnd steps) (sym (cond-false (restarts || nat_le count 1) first backjump long)) is
     ]

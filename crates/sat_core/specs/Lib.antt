@@ -1,7 +1,9 @@
 pub mod Conflicts
 pub mod FalseClauses
+pub mod Notes
 pub mod Picks
 pub mod Steps
+pub mod Tournament
 pub mod Verdicts
 pub mod Walks
 pub mod Watches

@@ -1,6 +1,6 @@
 -- The walk back along the trail that finds the lemma of a conflict, the first unique implication point: this project;
 -- no public clause cites it.
-use Rattle.std.specs.Prelude.{◌≡◌, ◌≢◌, ℕ, ◌+◌, ◌-◌, ◌<◌, ◌≤◌, ◌⊎◌, Bool, true, false, List, [], ◌∷◌, ◌++◌, length, take, drop, reverse, Some, None, is_none, nat_le, ◌&&◌, if◌then◌else◌, slice_index, slice_set}
+use Rattle.std.specs.Prelude.{◌≡◌, ◌≢◌, ℕ, ◌+◌, ◌-◌, ◌<◌, ◌≤◌, ◌⊎◌, Bool, true, false, List, [], ◌∷◌, ◌++◌, length, take, drop, reverse, Some, None, is_none, nat_le, ◌&&◌, ◌||◌, if◌then◌else◌, slice_index, slice_set}
 use Rattle.std.specs.List.{slice_index_or, All, Contains, count_by}
 use Rattle.cnf_core.specs.declared.literal.Lit.{Lit}
 use Rattle.cnf_core.specs.Formula.{IsLitOf, negated}
@@ -195,5 +195,5 @@ abbrev pub backjump_after : Step → ℕ → ℕ → ℕ → ℕ
 backjump_after step count index backjump = if is_none step.reason && nat_le count 1 then index else backjump
 
 -- and at the end of the walk
-abbrev pub backjump_at_end : ℕ → ℕ → ℕ → ℕ
-backjump_at_end first count backjump = if nat_le count 1 then first else backjump
+abbrev pub backjump_at_end : ℕ → Bool → ℕ → ℕ → ℕ
+backjump_at_end first restarts count backjump = if restarts || nat_le count 1 then first else backjump

@@ -1,7 +1,10 @@
 // The line of a conflict: the first unique implication point, and how far the trail is taken back.
-ghost use Rattle.std.specs.Prelude.{◌≡◌, ◌≢◌, ◌⊎◌, ℕ, ◌+◌, ◌-◌, ◌^◌, ◌<◌, ◌≤◌, ◌↔◌, [], ◌∷◌, ◌++◌, List, Bool, Some, None, true, false, length, reverse, slice_set, IsTrue, OnOk, IfOk, MatchOption};
+ghost use Rattle.std.specs.Prelude.{◌≡◌, ◌≢◌, ◌⊎◌, ℕ, ◌+◌, ◌-◌, ◌^◌, ◌<◌, ◌≤◌, ◌↔◌, [], ◌∷◌, ◌++◌, List, Bool, Some, None, true, false, length, reverse, slice_set, IsTrue, OnOk, IfOk, MatchOption, slice_index};
 ghost use Rattle.std.specs.List.{All, Contains, slice_index_or};
 ghost use Rattle.sat_core.specs.declared.trail.Step.{Step as Taken};
+ghost use Rattle.pick_rule.specs.declared.pick.Pick.TheVariants.{Busy};
+ghost use Rattle.sat_core.specs.Notes.{AreNotes};
+ghost use Rattle.sat_core.specs.Picks.{has_var, next_score, Offers};
 ghost use Rattle.cnf_core.specs.declared.literal.Lit.{Lit as Literal};
 ghost use Rattle.cnf_core.specs.Formula.{AreOver, IsLitOf};
 ghost use Rattle.cnf_core.specs.Refutation.{clause_at, IsAccepted};
@@ -10,6 +13,8 @@ ghost use Rattle.sat_core.specs.FalseClauses.{IsFalsified};
 ghost use Rattle.sat_core.specs.Conflicts.{GoesOnWith};
 ghost use Rattle.sat_core.specs.Walks.{is_marked, last_level_count, IsStepOf, MarksClause, IsLastDecision, IsDecisionOrEnd, IsKeptAt, IsTakenBack, KeepsStep, Resolves, IsWalked, LeadsBy, IsBackjump, IsSpareStep, IsImpliedStep, AddsNoStep, AddsNoLiteral, IsMinimalAt, AreNoMarks, trail_index, backjump_after, backjump_at_end};
 
+use crate::decision::Decider;
+use crate::notes::Notes;
 use crate::trail::{Step, Trail};
 use cnf_core::{Clauses, Line, Lit};
 use items::{Items, NoMemory};
@@ -18,31 +23,35 @@ use std::mem;
 
 /// What is known of a conflict while the trail is walked back from its end.
 #[derive(Drop)]
-struct Analysis {
+pub(crate) struct Analysis {
     /// Of each step, whether its literal is needed and not yet resolved or kept. No mark is left between conflicts.
-    seen: Vec<bool>,
+    pub(crate) seen: Vec<bool>,
     /// How many steps of the current decision level are needed.
     at_last_level: usize,
     /// Where the current decision level begins: the trail index of the last decision, or the number of steps.
-    last: usize,
+    pub(crate) last: usize,
     /// The literals of the lemma.
     lits: Vec<Lit>,
     /// The clauses that were resolved, the last first.
     hints: Vec<u32>,
     /// No step before this index is needed.
-    lowest: usize,
+    pub(crate) lowest: usize,
     /// How many steps a backjump leaves: those before the first decision under which the lemma is unit already.
     backjump: usize,
 }
 
 /// The line of a conflict, whose false clause has this id. If its lemma isn't empty, the trail goes back to the first
-/// decision before which the lemma is unit already. No mark is set before and after.
+/// decision before which the lemma is unit already, or, for a restart, to the first of all. No mark is set before and
+/// after.
 pub(crate) fn learn(
     alloc: Global,
     clauses: &Clauses,
     trail: &mut Trail,
     seen: &mut Vec<bool>,
+    notes: &mut Notes,
+    decider: &mut Decider,
     id: u32,
+    restarts: bool,
 ) -> Result<Line, NoMemory>
     requires few { length clauses.now < 2 ^ 31 }
     requires exist { AreOver (var_count trail.old) clauses.now }
@@ -50,16 +59,25 @@ pub(crate) fn learn(
     requires before { AreClosedBefore clauses.now trail.old.steps.items }
     requires falsified { IsFalsified (assignment_of trail.old.values.items) clauses.now id }
     requires unmarked { AreNoMarks (var_count trail.old) seen.old.items }
+    requires notes { AreNotes (var_count trail.old) notes.old }
+    requires offers { Offers trail.old.values.items decider.old }
     ensures shown { IfOk result (IsAccepted (record { vars = var_count trail.old; clauses = clauses.now }) []) }
     ensures size { OnOk result (var_count trail.new ≡ var_count trail.old) }
     ensures back { OnOk result (IsTakenBack trail.old.steps.items trail.new.steps.items) }
     ensures unmarked { OnOk result (AreNoMarks (var_count trail.old) seen.new.items) }
+    ensures notes { OnOk result (AreNotes (var_count trail.old) notes.new) }
+    ensures offers { OnOk result (Offers trail.new.values.items decider.new) }
+    ensures pick { OnOk result (decider.new.pick ≡ decider.old.pick) }
+    ensures busy { IfOk result (λ line. decider.old.pick ≡ Busy → (x : ℕ) → 1 ≤ x → x ≤ var_count trail.old
+        → slice_index decider.new.scores.items (x - 1)
+        ≡ next_score (has_var line.lits x) (slice_index decider.old.scores.items (x - 1))) }
     ensures goes_on { IfOk result (λ line. line.lits ≢ []
         → GoesOnWith clauses.now (var_count trail.old) line.lits trail.new) }
 {
     let marks = mem::replace(seen, Vec::new(alloc));
-    let analysis = analyze(alloc, clauses, trail, marks, id)?;
-    trail.backtrack(analysis.backjump);
+    let analysis = analyze(alloc, clauses, trail, marks, notes, id, restarts)?;
+    decider.take_back(trail, analysis.backjump);
+    decider.count(&analysis.lits, &notes.met);
     *seen = analysis.seen;
     let mut hints = analysis.hints;
     hints.reverse();
@@ -77,7 +95,9 @@ fn analyze(
     clauses: &Clauses,
     trail: &Trail,
     seen: Vec<bool>,
+    notes: &mut Notes,
     id: u32,
+    restarts: bool,
 ) -> Result<Analysis, NoMemory>
     requires few { length clauses.now < 2 ^ 31 }
     requires exist { AreOver (var_count trail.now) clauses.now }
@@ -85,6 +105,8 @@ fn analyze(
     requires before { AreClosedBefore clauses.now trail.now.steps.items }
     requires falsified { IsFalsified (assignment_of trail.now.values.items) clauses.now id }
     requires unmarked { AreNoMarks (var_count trail.now) seen.items }
+    requires notes { AreNotes (var_count trail.now) notes.old }
+    ensures notes { OnOk result (AreNotes (var_count trail.now) notes.new) }
     ensures last { IfOk result (λ a. IsLastDecision trail.now.steps.items a.last) }
     ensures walked { IfOk result (IsWalked clauses.now (var_count trail.now) trail.now.steps.items 0) }
     ensures leads { IfOk result (λ a. LeadsBy clauses.now trail.now.steps.items 0 a (clause_at clauses.now id)) }
@@ -93,14 +115,15 @@ fn analyze(
 {
     let count = trail.steps.len();
     let first = trail.first_decision();
+    notes.clear();
     let mut analysis = start(alloc, clauses, trail, seen, id);
     let mut index = count;
     while analysis.lowest < index {
         index -= 1;
-        analysis.resolve_or_keep(clauses, trail, index, first)?;
+        analysis.resolve_or_keep(clauses, trail, index, first, notes)?;
         analysis.set_backjump(trail.steps[index], index);
     }
-    analysis.end(first);
+    analysis.end(first, restarts);
     Ok(analysis)
 }
 
@@ -187,6 +210,7 @@ impl Analysis {
         trail: &Trail,
         index: usize,
         first: usize,
+        notes: &mut Notes,
     ) -> Result<(), NoMemory>
         requires few { length clauses.now < 2 ^ 31 }
         requires exist { AreOver (var_count trail.now) clauses.now }
@@ -195,10 +219,13 @@ impl Analysis {
         requires last { IsLastDecision trail.now.steps.items self.old.last }
         requires within { index < length trail.now.steps.items }
         requires walked { IsWalked clauses.now (var_count trail.now) trail.now.steps.items (index + 1) self.old }
+        requires notes { AreNotes (var_count trail.now) notes.old }
+        ensures notes { OnOk result (AreNotes (var_count trail.now) notes.new) }
+        ensures whole { OnOk result (notes.new.whole ≡ notes.old.whole) }
         ensures last { OnOk result (self.new.last ≡ self.old.last) }
         ensures backjump { OnOk result (self.new.backjump ≡ self.old.backjump) }
         ensures grows { OnOk result ((more : List Literal) × (self.new.lits.items ≡ self.old.lits.items ++ more)) }
-        ensures minimal { OnOk result (IsMinimalAt clauses.now trail.now.steps.items trail.now.indices.items
+        ensures minimal { notes.old.whole ≡ false → OnOk result (IsMinimalAt clauses.now trail.now.steps.items trail.now.indices.items
             first index self.old self.new) }
         ensures walked { OnOk result (IsWalked clauses.now (var_count trail.now) trail.now.steps.items index self.new) }
         ensures leads { OnOk result ((conflict : List Literal)
@@ -209,7 +236,8 @@ impl Analysis {
             return Ok(());
         }
         let step = trail.steps[index];
-        let spare = self.is_redundant(clauses, trail, index, first);
+        let spare = notes.is_spare(clauses, trail, self, index, first)?;
+        notes.meet(step.lit.var, spare)?;
         match self.resolvent(step, index, first, spare) {
             Some(id) => self.resolve(clauses, trail, id, index),
             None => self.keep(step.lit, index),
@@ -219,7 +247,13 @@ impl Analysis {
     /// Whether a step of an earlier level is implied by its reason, where the literals of the reason that aren't needed
     /// yet are implied by needed ones in turn: then the lemma follows without the step's literal too. The time grows
     /// with the sum of the lengths of the reasons of the reason's literals.
-    fn is_redundant(&self, clauses: &Clauses, trail: &Trail, index: usize, first: usize) -> bool
+    pub(crate) fn is_redundant(
+        &self,
+        clauses: &Clauses,
+        trail: &Trail,
+        index: usize,
+        first: usize,
+    ) -> bool
         requires exist { AreOver (var_count trail.now) clauses.now }
         requires state { IsTrailState clauses.now (var_count trail.now) trail.now }
         requires within { index < length trail.now.steps.items }
@@ -354,12 +388,13 @@ impl Analysis {
         Ok(())
     }
 
-    /// The end of the walk: a lemma of one literal, and an empty one, is unit before the first decision.
-    fn end(&mut self, first: usize)
+    /// The end of the walk: a lemma of one literal, and an empty one, is unit before the first decision, and a restart takes
+    /// all decisions back.
+    fn end(&mut self, first: usize, restarts: bool)
         ensures { self.new ≡ record self.old
-            { backjump = backjump_at_end first (length self.old.lits.items) self.old.backjump } }
+            { backjump = backjump_at_end first restarts (length self.old.lits.items) self.old.backjump } }
     {
-        if self.lits.len() <= 1 {
+        if restarts || self.lits.len() <= 1 {
             self.backjump = first;
         }
     }

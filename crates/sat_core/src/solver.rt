@@ -5,18 +5,20 @@ ghost use Rattle.cnf_core.specs.Values.{IsClosed};
 ghost use Rattle.cnf_core.specs.Outcome.{IsSolved, IsRefuted, IsSpent};
 ghost use Rattle.sat_core.specs.Steps.{truth_value, assignment_of, var_count, IsTrailState, AreClosedBefore};
 ghost use Rattle.sat_core.specs.FalseClauses.{IsFalsified};
-ghost use Rattle.sat_core.specs.Picks.{free_list};
+ghost use Rattle.sat_core.specs.Picks.{free_list, Offers};
 ghost use Rattle.sat_core.specs.Watches.{AreWatched};
 ghost use Rattle.sat_core.specs.Verdicts.{IfSat, IfRefuted, IfSpent};
 
 use crate::conflict::learn;
-use crate::decision::{Scores, decide};
+use crate::decision::Decider;
+use crate::notes::Notes;
 use crate::propagation::propagate;
+use crate::restarts::Restarts;
 use crate::trail::{Trail, Value};
 use crate::watches::Watches;
 use cnf_core::{Clauses, Cnf, Lines, refutations_leave_no_solution};
 use items::{Items, NoMemory};
-use pick_rule::{Picker, Rule};
+use pick_rule::Pick;
 use std::alloc::Global;
 
 /// What a search came to.
@@ -33,31 +35,27 @@ pub enum Verdict {
 
 /// Searches for values that satisfy the formula, with at most `conflicts` conflicts: `solve_from` with the score 0 for
 /// each variable.
-pub fn solve<F: Rule>(
-    alloc: Global,
-    cnf: &Cnf,
-    picker: &Picker<F>,
-    conflicts: u32,
-) -> Result<Verdict, NoMemory>
+pub fn solve(alloc: Global, cnf: &Cnf, pick: Pick, conflicts: u32) -> Result<Verdict, NoMemory>
     requires conflicts { (1 ≤ conflicts) × (conflicts ≤ 1000000) }
     ensures solved { IfOk result (λ verdict. IfSat verdict (IsSolved cnf.now)) }
     ensures refuted { IfOk result (λ verdict. IfRefuted verdict (IsRefuted cnf.now conflicts)) }
     ensures spent { IfOk result (λ verdict. IfSpent verdict (IsSpent cnf.now conflicts)) }
 {
     let scores = vec![in alloc; 0u64; cnf.vars() as usize]?;
-    solve_from(alloc, cnf, picker, conflicts, &scores)
+    solve_from(alloc, cnf, pick, conflicts, &scores)
 }
 
 /// Searches for values that satisfy the formula, with at most `conflicts` conflicts, from a score for each variable, that
-/// of variable x at the place x - 1. For each decision the picker gets the scores of the free variables, in rising order
-/// of these, and the free variable at the place that it answers is tried, false first. A score is the given one plus the
-/// number of lemmas so far that have the variable, and ends at 2^64 - 1. Each conflict adds one line: the lemma of the
+/// of variable x at the place x - 1. Each decision is the free variable that the strategy picks. For `Busy` its score is
+/// the given one plus the number of lemmas so far that have the variable, and ends at 2^64 - 1; for `Activity` the given
+/// one is where its activity starts; `First` and `Last` don't look at scores. Each conflict adds one line: the lemma of the
 /// first unique implication point, without the literals that its other literals imply, and as hints the clauses that it
-/// was resolved from. Memory grows with the formula and with what is learnt, not with `conflicts`.
-pub fn solve_from<F: Rule>(
+/// was resolved from. A decision takes time that grows with the logarithm of the number of variables. Memory grows with
+/// the formula and with what is learnt, not with `conflicts`.
+pub fn solve_from(
     alloc: Global,
     cnf: &Cnf,
-    picker: &Picker<F>,
+    pick: Pick,
     conflicts: u32,
     scores: &[u64],
 ) -> Result<Verdict, NoMemory>
@@ -69,24 +67,30 @@ pub fn solve_from<F: Rule>(
 {
     let mut trail = Trail::new(alloc, cnf.vars())?;
     let mut watches = Watches::new(alloc, cnf.vars())?;
-    let counts = scores.to_vec(alloc)?;
-    let mut tally = Scores {
-        counts,
-        free: Vec::new(alloc),
-        free_scores: Vec::new(alloc),
-    };
+    let mut decider = Decider::new(alloc, pick, scores)?;
+    let mut notes = Notes::new(alloc, cnf.vars(), pick == Pick::Activity)?;
+    let mut restarts = Restarts::new();
     let mut seen = vec![in alloc; false; cnf.vars() as usize]?;
     let mut clauses = clauses_of(alloc, cnf)?;
     let mut lines = Items::new(alloc);
     for made in 0..conflicts {
-        match search(&clauses, picker, &mut trail, &mut watches, &mut tally)? {
+        match search(&clauses, &mut decider, &mut trail, &mut watches)? {
             None => return Ok(Verdict::Sat(all_values(alloc, trail.values.as_slice())?)),
             Some(id) => {
-                let line = learn(alloc, &clauses, &mut trail, &mut seen, id)?;
+                let restart = pick == Pick::Activity && restarts.is_due();
+                let line = learn(
+                    alloc,
+                    &clauses,
+                    &mut trail,
+                    &mut seen,
+                    &mut notes,
+                    &mut decider,
+                    id,
+                    restart,
+                )?;
                 watches.qhead = watches.qhead.min(trail.steps.len());
                 let refuted = line.lits.is_empty();
                 clauses.push(line.lits.as_slice())?;
-                tally.add(line.lits.as_slice());
                 lines.push(line)?;
                 if refuted {
                     refutations_leave_no_solution();
@@ -111,12 +115,11 @@ fn clauses_of(alloc: Global, cnf: &Cnf) -> Result<Clauses, NoMemory>
 }
 
 /// Propagates and decides until a clause is false, whose id is the answer, or every variable has a value.
-fn search<F: Rule>(
+fn search(
     clauses: &Clauses,
-    picker: &Picker<F>,
+    decider: &mut Decider,
     trail: &mut Trail,
     watches: &mut Watches,
-    scores: &mut Scores,
 ) -> Result<Option<u32>, NoMemory>
     requires few { length clauses.now < 2 ^ 31 }
     requires few_vars { var_count trail.old < 2 ^ 29 }
@@ -124,11 +127,13 @@ fn search<F: Rule>(
     requires state { IsTrailState clauses.now (var_count trail.old) trail.old }
     requires before { AreClosedBefore clauses.now trail.old.steps.items }
     requires watched { AreWatched clauses.now (var_count trail.old) trail.old.steps.items watches.old }
-    requires scores { length scores.old.counts.items ≡ var_count trail.old }
+    requires offers { Offers trail.old.values.items decider.old }
     ensures state { OnOk result (IsTrailState clauses.now (var_count trail.old) trail.new) }
     ensures before { OnOk result (AreClosedBefore clauses.now trail.new.steps.items) }
     ensures watched { OnOk result (AreWatched clauses.now (var_count trail.old) trail.new.steps.items watches.new) }
-    ensures scores { OnOk result (scores.new.counts ≡ scores.old.counts) }
+    ensures offers { OnOk result (Offers trail.new.values.items decider.new) }
+    ensures pick { OnOk result (decider.new.pick ≡ decider.old.pick) }
+    ensures scores { OnOk result (decider.new.scores ≡ decider.old.scores) }
     ensures done { IfOk result (λ o. MatchOption o
         (IsClosed (assignment_of trail.new.values.items) clauses.now × (free_list trail.new.values.items ≡ []))
         (IsFalsified (assignment_of trail.new.values.items) clauses.now)) }
@@ -137,7 +142,7 @@ fn search<F: Rule>(
         if let Some(id) = propagate(clauses, trail, watches)? {
             return Ok(Some(id));
         }
-        if !decide(picker, trail, scores)? {
+        if !decider.decide(trail)? {
             return Ok(None);
         }
     }

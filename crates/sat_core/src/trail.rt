@@ -101,6 +101,16 @@ impl Trail {
         self.values[(lit.var - 1) as usize].makes_true(lit.positive)
     }
 
+    /// Whether a variable has no value.
+    #[tactic(auto, unfolding(crate::specs::Steps::assignment_of))]
+    pub(crate) fn is_free(&self, var: u32) -> bool
+        requires above { 1 ≤ var }
+        requires within { var ≤ var_count self.now }
+        ensures { IsTrue result ↔ (assignment_of self.now.values.items var ≡ None) }
+    {
+        self.values[(var - 1) as usize].as_option().is_none()
+    }
+
     /// Whether a literal is false.
     #[tactic(auto, unfolding(crate::specs::Steps::assignment_of))]
     pub(crate) fn is_false(&self, lit: Lit) -> bool

@@ -40,6 +40,7 @@ loop-analysis-preserved c =
           (subst (λ (k : ℕ). IsBackjump steps k a.backjump a.lits.items) at h.stays);
       back = subst (IsDecisionOrEnd steps) (sym backjump)
           (back-more steps i (length b.lits.items) b.backjump step c.index.ensures (subst (IsDecisionOrEnd steps) (sym e.backjump) h.back));
+      notes = e.notes;
     }
 
 pub returns-clause-last : goal.returns-clause-last
@@ -52,7 +53,7 @@ returns-clause-walked c =
     let t = c.args.trail.now in
     let end = c.loop-analysis-test.false in
     subst (IsWalked c.args.clauses.now (var_count t) t.steps.items 0) (sym c.end.ensures)
-    (walked-end c.args.clauses.now (var_count t) t.steps.items c.loop-analysis.index (backjump_at_end c.first_decision-first.result (length a.lits.items) a.backjump) a (omega arith) h.walked)
+    (walked-end c.args.clauses.now (var_count t) t.steps.items c.loop-analysis.index (backjump_at_end c.first_decision-first.result c.args.restarts (length a.lits.items) a.backjump) a (omega arith) h.walked)
 
 pub returns-clause-leads : goal.returns-clause-leads
 returns-clause-leads c =
@@ -73,7 +74,7 @@ returns-clause-stays c =
     let first = c.first_decision-first.result in
     let before = c.first_decision-first.ensures.before in
     subst (λ (x : Analysis). IsBackjump t.steps.items 0 x.backjump x.lits.items) (sym c.end.ensures)
-    (stays-end c.args.clauses.now (var_count t) t.steps.items c.loop-analysis.index first a h.walked before h.stays)
+    (stays-end c.args.clauses.now (var_count t) t.steps.items c.loop-analysis.index first c.args.restarts a h.walked before h.stays)
 
 pub returns-clause-back : goal.returns-clause-back
 returns-clause-back c =
@@ -82,4 +83,4 @@ returns-clause-back c =
     let first = c.first_decision-first.result in
     let decides = c.first_decision-first.ensures.decides in
     subst (λ (x : Analysis). IsDecisionOrEnd t.steps.items x.backjump) (sym c.end.ensures)
-    (back-end t.steps.items first (length a.lits.items) a.backjump decides c.loop-analysis.invariant.back)
+    (back-end t.steps.items first c.args.restarts (length a.lits.items) a.backjump decides c.loop-analysis.invariant.back)

@@ -1,4 +1,4 @@
-use Rattle.std.proofs.Common.{ℕ, ◌+◌, [], ◌∷◌, ◌++◌, List, ap, ◌∙◌}
+use Rattle.std.proofs.Common.{ℕ, ◌+◌, [], ◌∷◌, ◌++◌, List, sym, ap, ◌∙◌}
 use Rattle.cnf_core.specs.declared.line.Line.{Line}
 use Rattle.sat_core.specs.Steps.{var_count}
 use Rattle.sat_core.proofs.Ending.{line-shown, line-goes_on}
@@ -16,16 +16,25 @@ returns-clause-shown c =
     (c.from-2.ensures ∙ c.in_ok-push.ensures.items ∙ ap (λ (hs : List ℕ). hs ++ c.args.id ∷ []) c.reverse.ensures.items)
 
 pub returns-clause-size : goal.returns-clause-size
-returns-clause-size c = (c.backtrack.ensures.state c.args.clauses.now c.requires.state).size
+returns-clause-size c = (c.take_back.ensures.state c.args.clauses.now c.requires.state).size
 
 pub returns-clause-goes_on : goal.returns-clause-goes_on
 returns-clause-goes_on c = λ some.
     let e = c.in_ok-analysis.ensures in
-    line-goes_on c.args.clauses.now (var_count c.args.trail.now) c.args.trail.now c.backtrack.new.self c.in_ok-analysis.analysis c.from.result
-    c.requires.before e.last e.walked e.stays (c.backtrack.ensures.state c.args.clauses.now c.requires.state) c.backtrack.ensures.steps c.from.ensures some
+    line-goes_on c.args.clauses.now (var_count c.args.trail.now) c.args.trail.now c.take_back.new.trail c.in_ok-analysis.analysis c.from.result
+    c.requires.before e.last e.walked e.stays (c.take_back.ensures.state c.args.clauses.now c.requires.state) c.take_back.ensures.steps c.from.ensures some
 
 pub returns-clause-back : goal.returns-clause-back
-returns-clause-back c = record { count = c.in_ok-analysis.analysis.backjump; front = c.backtrack.ensures.steps; decides = c.in_ok-analysis.ensures.back }
+returns-clause-back c = record { count = c.in_ok-analysis.analysis.backjump; front = c.take_back.ensures.steps; decides = c.in_ok-analysis.ensures.back }
 
 pub returns-clause-unmarked : goal.returns-clause-unmarked
 returns-clause-unmarked c = (let w = c.in_ok-analysis.ensures.walked in record { size = w.size; clear = w.clear })
+
+pub count-requires-clause-players : goal.count-requires-clause-players
+count-requires-clause-players c =
+    let o = c.take_back.ensures.offers c.args.clauses.now c.requires.state in
+    o.players ∙ sym o.scores
+
+pub returns-clause-offers : goal.returns-clause-offers
+returns-clause-offers c =
+    c.count.ensures.offers c.take_back.new.trail.values.items (c.take_back.ensures.offers c.args.clauses.now c.requires.state)
