@@ -1,6 +1,6 @@
 -- A new clause gets its watched literals: the two that become false last.
-use Rattle.std.proofs.Common.{◌≡◌, ◌≢◌, ℕ, ◌<◌, ◌≤◌, List, [], ◌∷◌, ◌++◌, length, take, get_or, refl, sym, ◌∙◌, subst, arith, inl, inr}
-use Rattle.std.specs.Prelude.{◌⊎◌}
+use Rattle.std.proofs.Common.{◌≡◌, ◌≢◌, ℕ, ◌<◌, ◌≤◌, Bool, List, [], ◌∷◌, ◌++◌, length, take, get_or, refl, sym, ap, ◌∙◌, subst, arith, inl, inr}
+use Rattle.std.specs.Prelude.{◌⊎◌, IsTrue}
 use Rattle.std.specs.List.{All, Contains}
 use Rattle.std.proofs.lemmas.Bool.{cases_lt}
 use Rattle.std.proofs.lemmas.List.{take_all, get_or_append_left, get_or_push, length-set, length_push}
@@ -44,7 +44,7 @@ chosen-quiet steps c p k le h open' =
 -- what a new clause needs of the lists
 record IsListed (clauses : List (List Lit)) (lists lists' : List (List Watcher)) (pairs : List Pair) (p : Pair) : Type 0 where
   size : length lists' ≡ length lists
-  right : (k : ℕ) → All (IsWatcher clauses (pairs ++ p ∷ [])) (watchers lists' k)
+  right : (k : ℕ) → All (IsWatcher clauses (pairs ++ p ∷ []) k) (watchers lists' k)
   stays : (i k : ℕ) → StandsFrom 0 (watchers lists i) k → StandsFrom 0 (watchers lists' i) k
   listed_a : p.a ≢ p.b → StandsFrom 0 (watchers lists' (list_of p.a)) (length pairs)
   listed_b : p.a ≢ p.b → StandsFrom 0 (watchers lists' (list_of p.b)) (length pairs)
@@ -101,30 +101,31 @@ added-with clauses n steps lists lists' pairs qhead p h more chosen before open'
       ];
     }
 
-watcher-more : (clauses : List (List Lit)) (pairs : List Pair) (p : Pair) (w : Watcher) → IsWatcher clauses pairs w → IsWatcher clauses (pairs ++ p ∷ []) w
-watcher-more clauses pairs p w r =
+watcher-more : (clauses : List (List Lit)) (pairs : List Pair) (p : Pair) (k : ℕ) (w : Watcher) → IsWatcher clauses pairs k w → IsWatcher clauses (pairs ++ p ∷ []) k w
+watcher-more clauses pairs p k w r =
     let long = length_push pairs p in
     let e = r.exists in
     record {
       exists = omega arith;
       has_blocker = r.has_blocker;
       differ = subst (λ (y : Pair). y.a ≢ y.b) (sym (pair-before pairs p w.clause r.exists)) r.differ;
+      binary = r.binary;
     }
 
 -- **a new clause gets its watched literals**
-pub kept-added : (clauses : List (List Lit)) (n : ℕ) (steps : List Step) (lists lists' : List (List Watcher)) (pairs : List Pair) (qhead : ℕ) (p : Pair)
+pub kept-added : (clauses : List (List Lit)) (n : ℕ) (steps : List Step) (lists lists' : List (List Watcher)) (pairs : List Pair) (qhead : ℕ) (p : Pair) (binary : Bool)
     → KeepWatches clauses n steps lists pairs qhead → length pairs < length clauses → IsChosen steps (get_or clauses (length pairs) []) p
     → AreClosedBefore clauses steps → IsOpenClause (trail_values steps) (get_or clauses (length pairs) [])
-    → list_of p.a < length lists → list_of p.b < length lists → (p.a ≡ p.b → lists' ≡ lists) → (p.a ≢ p.b → lists' ≡ with_pair lists (length pairs) p)
-    → KeepWatches clauses n steps lists' (pairs ++ p ∷ []) qhead
-kept-added clauses n steps lists lists' pairs qhead p h more chosen before open' in-a in-b one two =
+    → list_of p.a < length lists → list_of p.b < length lists → (p.a ≡ p.b → lists' ≡ lists) → (p.a ≢ p.b → lists' ≡ with_pair lists (length pairs) p binary)
+    → (IsTrue binary → (p.a ≢ p.b) → All (λ m. (m ≡ p.a) ⊎ (m ≡ p.b)) (get_or clauses (length pairs) [])) → KeepWatches clauses n steps lists' (pairs ++ p ∷ []) qhead
+kept-added clauses n steps lists lists' pairs qhead p binary h more chosen before open' in-a in-b one two both =
     added-with clauses n steps lists lists' pairs qhead p h more chosen before open'
     (elim (lit-eq-cases p.a p.b) [
       | inl same ↦
           subst (λ (ls : List (List Watcher)). IsListed clauses lists ls pairs p) (sym (one same))
           (record {
             size = refl;
-            right = λ k. All-weaker (IsWatcher clauses pairs) (IsWatcher clauses (pairs ++ p ∷ [])) (watcher-more clauses pairs p) (watchers lists k) (h.right k);
+            right = λ k. All-weaker (IsWatcher clauses pairs k) (IsWatcher clauses (pairs ++ p ∷ []) k) (watcher-more clauses pairs p k) (watchers lists k) (h.right k);
             stays = λ i k stands. stands;
             listed_a = λ differ. absurd (differ same);
             listed_b = λ differ. absurd (differ same);
@@ -133,9 +134,9 @@ kept-added clauses n steps lists lists' pairs qhead p h more chosen before open'
           (let id = length pairs in
           let c = get_or clauses id [] in
           let long = length_push pairs p in
-          let P : Watcher → Type 0 = IsWatcher clauses (pairs ++ p ∷ []) in
-          let first : Watcher = record { clause = id; blocker = p.b } in
-          let second : Watcher = record { clause = id; blocker = p.a } in
+          let P : ℕ → Watcher → Type 0 = IsWatcher clauses (pairs ++ p ∷ []) in
+          let first : Watcher = record { clause = id; blocker = p.b; binary = binary } in
+          let second : Watcher = record { clause = id; blocker = p.a; binary = binary } in
           let mid = with_watcher lists (list_of p.a) first in
           let size = length-set lists (list_of p.a) (watchers lists (list_of p.a) ++ first ∷ []) in
           let size' = length-set mid (list_of p.b) (watchers mid (list_of p.b) ++ second ∷ []) in
@@ -144,9 +145,9 @@ kept-added clauses n steps lists lists' pairs qhead p h more chosen before open'
           subst (λ (ls : List (List Watcher)). IsListed clauses lists ls pairs p) (sym (two differ))
           (record {
             size = omega arith;
-            right = λ k. all-with P mid (list_of p.b) k second in-b' (record { exists = omega arith; has_blocker = chosen.has_a; differ = ne })
-                (λ j. all-with P lists (list_of p.a) j first in-a (record { exists = omega arith; has_blocker = chosen.has_b; differ = ne })
-                (λ i. All-weaker (IsWatcher clauses pairs) P (watcher-more clauses pairs p) (watchers lists i) (h.right i)));
+            right = λ k. all-with P mid (list_of p.b) k second in-b' (record { exists = omega arith; has_blocker = chosen.has_a; differ = ne; binary = λ t. All-weaker (λ m. (m ≡ p.a) ⊎ (m ≡ p.b)) (λ m. (m ≡ p.a) ⊎ (list_of m ≡ list_of p.b)) (λ m e. elim e [ inl here ↦ inl here | inr there ↦ inr (ap list_of there) ]) c (both t differ) })
+                (λ j. all-with P lists (list_of p.a) j first in-a (record { exists = omega arith; has_blocker = chosen.has_b; differ = ne; binary = λ t. All-weaker (λ m. (m ≡ p.a) ⊎ (m ≡ p.b)) (λ m. (m ≡ p.b) ⊎ (list_of m ≡ list_of p.a)) (λ m e. elim e [ inl here ↦ inr (ap list_of here) | inr there ↦ inl there ]) c (both t differ) })
+                (λ i. All-weaker (IsWatcher clauses pairs i) (P i) (watcher-more clauses pairs p i) (watchers lists i) (h.right i)));
             stays = λ i k stands. stands-with mid (list_of p.b) i 0 k second in-b' (stands-with lists (list_of p.a) i 0 k first in-a stands);
             listed_a = λ differ'. stands-with mid (list_of p.b) (list_of p.a) 0 id second in-b' (stands-new lists (list_of p.a) first in-a);
             listed_b = λ differ'. stands-new mid (list_of p.b) second in-b';

@@ -1,8 +1,8 @@
 -- A clause exchanges one of its watched literals.
-use Rattle.std.proofs.Common.{◌≡◌, ◌≢◌, ℕ, ◌+◌, ◌<◌, ◌≤◌, not, List, [], ◌∷◌, ◌++◌, length, take, set, get_or, refl, sym, ap, ◌∙◌, subst, arith, inl, inr}
+use Rattle.std.proofs.Common.{◌≡◌, ◌≢◌, ℕ, ◌+◌, ◌<◌, ◌≤◌, not, false, List, [], ◌∷◌, ◌++◌, length, take, set, get_or, refl, sym, ap, ◌∙◌, subst, arith, inl, inr}
 use Rattle.std.specs.Prelude.{◌⊎◌}
 use Rattle.std.specs.List.{All, Contains}
-use Rattle.std.proofs.lemmas.Bool.{cases_eq}
+use Rattle.std.proofs.lemmas.Bool.{cases_eq, false≢true}
 use Rattle.std.proofs.lemmas.List.{get_or_append_left, get_or_push, get_or-set_same, get_or-set_other, get_or_default, length-set, length_push}
 use Rattle.std.proofs.lemmas.List.Elements.{All-push, All-weaker}
 use Rattle.cnf_core.specs.declared.literal.Lit.{Lit}
@@ -16,10 +16,10 @@ use Rattle.sat_core.proofs.Quiet.{Grows, grows-whole, false-next}
 use Rattle.sat_core.proofs.Watching.{list_of-differ}
 
 -- the lists with one watcher more: each stays where it was, and the new one stands in its list
-pub set-at : (lists : List (List Watcher)) (k i : ℕ) (xs : List Watcher) → k < length lists → (watchers (set lists k xs) i ≡ xs) ⊎ ((k ≢ i) × (watchers (set lists k xs) i ≡ watchers lists i))
+pub set-at : (lists : List (List Watcher)) (k i : ℕ) (xs : List Watcher) → k < length lists → ((k ≡ i) × (watchers (set lists k xs) i ≡ xs)) ⊎ ((k ≢ i) × (watchers (set lists k xs) i ≡ watchers lists i))
 set-at lists k i xs few =
     elim (cases_eq k i) [
-      | inl same ↦ inl (subst (λ (j : ℕ). watchers (set lists k xs) j ≡ xs) same (get_or-set_same lists k xs [] few))
+      | inl same ↦ inl (same, subst (λ (j : ℕ). watchers (set lists k xs) j ≡ xs) same (get_or-set_same lists k xs [] few))
       | inr other ↦ inr (other, get_or-set_other lists k i xs [] (λ e. other (sym e)))
     ]
 
@@ -45,11 +45,13 @@ stands-new lists k w few =
     subst (λ (ys : List Watcher). StandsFrom 0 ys w.clause) (sym (get_or-set_same lists k (xs ++ w ∷ []) [] few))
     (length xs, (omega arith), (omega arith), ap (λ (v : Watcher). v.clause) (get_or_push xs w no_watcher (length xs) refl))
 
-pub all-with : (P : Watcher → Type 0) (lists : List (List Watcher)) (k i : ℕ) (w : Watcher) → k < length lists → P w → ((j : ℕ) → All P (watchers lists j)) → All P (watchers (with_watcher lists k w) i)
+pub all-with : (P : ℕ → Watcher → Type 0) (lists : List (List Watcher)) (k i : ℕ) (w : Watcher) → k < length lists → P k w → ((j : ℕ) → All (P j) (watchers lists j)) → All (P i) (watchers (with_watcher lists k w) i)
 all-with P lists k i w few holds all =
     elim (set-at lists k i (watchers lists k ++ w ∷ []) few) [
-      | inl is ↦ subst (All P) (sym is) (All-push P (watchers lists k) w (all k) holds)
-      | inr other ↦ subst (All P) (sym other.1) (all i)
+      | inl (same, is) ↦
+          subst (All (P i)) (sym is)
+          (subst (λ (j : ℕ). All (P j) (watchers lists k ++ w ∷ [])) same (All-push (P k) (watchers lists k) w (all k) holds))
+      | inr other ↦ subst (All (P i)) (sym other.1) (all i)
     ]
 
 -- all else stays where one watcher was taken out
@@ -70,15 +72,16 @@ stands-removed lists list place i from id rest few r other low (j, low', within,
           (k, low'', few', ap (λ (v : Watcher). v.clause) e ∙ is')))
     ]
 
-all-removed : (P : Watcher → Type 0) (lists : List (List Watcher)) (list place i : ℕ) (rest : List Watcher) → list < length lists → IsRemoved (watchers lists list) place rest
-    → ((j : ℕ) → All P (watchers lists j)) → All P (watchers (set lists list rest) i)
+all-removed : (P : ℕ → Watcher → Type 0) (lists : List (List Watcher)) (list place i : ℕ) (rest : List Watcher) → list < length lists → IsRemoved (watchers lists list) place rest
+    → ((j : ℕ) → All (P j) (watchers lists j)) → All (P i) (watchers (set lists list rest) i)
 all-removed P lists list place i rest few r all =
     elim (set-at lists list i rest few) [
-      | inl is ↦
-          subst (All P) (sym is) (λ k d few'.
+      | inl (same, is) ↦
+          subst (All (P i)) (sym is)
+          (subst (λ (q : ℕ). All (P q) rest) same (λ k d few'.
           (let (j, within, e) = r.among k few' in
-          subst P (sym e ∙ get_or_default rest k no_watcher d few') (all list j no_watcher within)))
-      | inr other ↦ subst (All P) (sym other.1) (all i)
+          subst (P list) (sym e ∙ get_or_default rest k no_watcher d few') (all list j no_watcher within))))
+      | inr other ↦ subst (All (P i)) (sym other.1) (all i)
     ]
 
 pair-other : (pairs : List Pair) (id k : ℕ) (p : Pair) → id ≢ k → pair_at (set pairs id p) k ≡ pair_at pairs k
@@ -139,7 +142,7 @@ quiet-exchanged s t u c o p l grows first differ free q =
     ]
 
 abbrev pub exchanged-lists : List (List Watcher) → Lit → List Watcher → ℕ → Pair → List (List Watcher)
-exchanged-lists lists l rest id p = with_watcher (set lists (list_of l) rest) (list_of p.b) (record { clause = id; blocker = p.a })
+exchanged-lists lists l rest id p = with_watcher (set lists (list_of l) rest) (list_of p.b) (record { clause = id; blocker = p.a; binary = false })
 
 -- **a clause watches another literal**
 pub kept-moved : (clauses : List (List Lit)) (n : ℕ) (steps : List Step) (lists : List (List Watcher)) (pairs : List Pair) (qhead : ℕ) (l : Lit) (place id : ℕ) (p : Pair) (rest : List Watcher)
@@ -149,7 +152,7 @@ kept-moved clauses n steps lists pairs qhead l place id p rest h x r =
     let q = list_of l in
     let mid = set lists q rest in
     let size = length-set lists q rest in
-    let w : Watcher = record { clause = id; blocker = p.a } in
+    let w : Watcher = record { clause = id; blocker = p.a; binary = false } in
     let lists' = exchanged-lists lists l rest id p in
     let pairs' = set pairs id p in
     let c = get_or clauses id [] in
@@ -161,10 +164,10 @@ kept-moved clauses n steps lists pairs qhead l place id p rest h x r =
     let few-list = x.list in
     let few-b : list_of p.b < length mid = (let e = x.list_b in omega arith) in
     let now : pair_at pairs' id ≡ p = pair-same pairs id p exists in
-    let P : Watcher → Type 0 = IsWatcher clauses pairs' in
+    let P : ℕ → Watcher → Type 0 = IsWatcher clauses pairs' in
     let count' = h.count in
     let attached' = h.attached in
-    let moved : (v : Watcher) → IsWatcher clauses pairs v → P v = λ v rv.
+    let moved : (i : ℕ) (v : Watcher) → IsWatcher clauses pairs i v → P i v = λ i v rv.
     (let e = rv.exists in
     record {
       exists = omega arith;
@@ -173,6 +176,7 @@ kept-moved clauses n steps lists pairs qhead l place id p rest h x r =
         | inl same ↦ subst (λ (k : ℕ). (pair_at pairs' k).a ≢ (pair_at pairs' k).b) same (subst (λ (y : Pair). y.a ≢ y.b) (sym now) (λ e'. x.differ (sym e')))
         | inr ne ↦ subst (λ (y : Pair). y.a ≢ y.b) (sym (pair-other pairs id v.clause p ne)) rv.differ
       ];
+      binary = rv.binary;
     }) in
     let stays : (i k : ℕ) → id ≢ k → StandsFrom 0 (watchers lists i) k → StandsFrom 0 (watchers lists' i) k = λ i k ne stands.
     stands-with mid (list_of p.b) i 0 k w few-b (stands-removed lists q place i 0 k rest x.list r (λ e. ne (sym x.is ∙ e)) (omega arith) stands) in
@@ -185,7 +189,8 @@ kept-moved clauses n steps lists pairs qhead l place id p rest h x r =
         exists = omega arith;
         has_blocker = stays-one (Contains c) o l p.a x.first old.has_a old.has_b;
         differ = subst (λ (y : Pair). y.a ≢ y.b) (sym now) (λ e'. x.differ (sym e'));
-      }) (λ j. all-removed P lists q place j rest x.list r (λ i. All-weaker (IsWatcher clauses pairs) P moved (watchers lists i) (h.right i)));
+        binary = λ e'. absurd (false≢true e');
+      }) (λ j. all-removed P lists q place j rest x.list r (λ i. All-weaker (IsWatcher clauses pairs i) (P i) (moved i) (watchers lists i) (h.right i)));
       kept = λ k few. elim (cases_eq id k) [
         | inl same ↦
             subst (λ (j : ℕ). KeepsWatch steps lists' qhead j (get_or clauses j []) (pair_at pairs' j)) same
@@ -222,7 +227,7 @@ passed-moved clauses n steps lists pairs qhead l place id p rest trail at h x r 
     let q = list_of l in
     let mid = set lists q rest in
     let size = length-set lists q rest in
-    let w : Watcher = record { clause = id; blocker = p.a } in
+    let w : Watcher = record { clause = id; blocker = p.a; binary = false } in
     let lists' = exchanged-lists lists l rest id p in
     let c = get_or clauses id [] in
     let o = pair_at pairs id in
@@ -257,7 +262,7 @@ pub fewer-moved : (clauses : List (List Lit)) (steps : List Step) (lists : List 
 fewer-moved clauses steps lists pairs l place id p rest x r =
     let q = list_of l in
     let mid = set lists q rest in
-    let w : Watcher = record { clause = id; blocker = p.a } in
+    let w : Watcher = record { clause = id; blocker = p.a; binary = false } in
     let apart : q ≢ list_of p.b = list_of-differ l p.b x.low x.low_b (λ e. x.free (subst (IsFalse (trail_values steps)) e x.false')) in
     let e = ap length (get_or-set_other mid (list_of p.b) q (watchers mid (list_of p.b) ++ w ∷ []) [] apart ∙ get_or-set_same lists q rest [] x.list) in
     let fewer = r.fewer in

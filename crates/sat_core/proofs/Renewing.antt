@@ -1,5 +1,6 @@
 -- A watcher gets another blocker, a literal of its clause: all that the lists keep stays.
 use Rattle.std.proofs.Common.{◌≡◌, ℕ, ◌<◌, List, [], length, set, get_or, sym, ap, ◌∙◌, subst, arith, inl, inr}
+use Rattle.std.specs.Prelude.{IsTrue}
 use Rattle.std.specs.List.{All, Contains}
 use Rattle.std.proofs.lemmas.Bool.{cases_eq}
 use Rattle.std.proofs.lemmas.List.{get_or-set_same, get_or-set_other, length-set}
@@ -39,8 +40,8 @@ stands-renewed lists list place i from id blocker few within (j, low, within', i
 
 pub kept-renewed : (clauses : List (List Lit)) (n : ℕ) (steps : List Step) (lists : List (List Watcher)) (pairs : List Pair) (qhead list place : ℕ) (blocker : Lit)
     → list < length lists → place < length (watchers lists list) → Contains (get_or clauses (get_or (watchers lists list) place no_watcher).clause []) blocker
-    → KeepWatches clauses n steps lists pairs qhead → KeepWatches clauses n steps (with_blocker lists list place blocker) pairs qhead
-kept-renewed clauses n steps lists pairs qhead list place blocker few within among h =
+    → (IsTrue (get_or (watchers lists list) place no_watcher).binary → ⊥) → KeepWatches clauses n steps lists pairs qhead → KeepWatches clauses n steps (with_blocker lists list place blocker) pairs qhead
+kept-renewed clauses n steps lists pairs qhead list place blocker few within among long h =
     let xs = watchers lists list in
     let w = watcher_with xs place blocker in
     let old = h.right list place no_watcher within in
@@ -49,10 +50,11 @@ kept-renewed clauses n steps lists pairs qhead list place blocker few within amo
       attached = h.attached;
       within = h.within;
       right = λ k. elim (set-at lists list k (set xs place w) few) [
-        | inl is ↦
-            subst (All (IsWatcher clauses pairs)) (sym is)
-            (All-set (IsWatcher clauses pairs) xs place w (record { exists = old.exists; has_blocker = among; differ = old.differ }) (h.right list))
-        | inr other ↦ subst (All (IsWatcher clauses pairs)) (sym other.1) (h.right k)
+        | inl (same, is) ↦
+            subst (All (IsWatcher clauses pairs k)) (sym is)
+            (subst (λ (i : ℕ). All (IsWatcher clauses pairs i) (set xs place w)) same
+            (All-set (IsWatcher clauses pairs list) xs place w (record { exists = old.exists; has_blocker = among; differ = old.differ; binary = λ t. absurd (long t) }) (h.right list)))
+        | inr other ↦ subst (All (IsWatcher clauses pairs k)) (sym other.1) (h.right k)
       ];
       kept = λ id few'.
           (let o = h.kept id few' in

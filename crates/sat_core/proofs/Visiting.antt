@@ -1,9 +1,10 @@
 -- A look at the clause of a watcher: which one it is, and what each end of the look leaves.
-use Rattle.std.proofs.Common.{◌≡◌, ◌≢◌, ℕ, ◌+◌, ◌-◌, ◌<◌, List, [], ◌∷◌, ◌++◌, length, get_or, sym, ap, ◌∙◌, subst, arith, inl, inr, Some, None, append-nil}
-use Rattle.std.specs.Prelude.{◌⊎◌}
+use Rattle.std.proofs.Common.{◌≡◌, ◌≢◌, ℕ, ◌+◌, ◌-◌, ◌<◌, List, [], ◌∷◌, ◌++◌, Bool, length, get_or, refl, sym, ap, ◌∙◌, subst, arith, inl, inr, Some, None, append-nil}
+use Rattle.std.specs.Prelude.{◌⊎◌, IsTrue, OnOk, IfOk, Result, Ok, Err}
 use Rattle.std.specs.List.{All, Contains}
-use Rattle.std.proofs.lemmas.List.{get_or_read}
-use Rattle.std.proofs.lemmas.List.Elements.{All-nil, All-weaker, All-contains}
+use Rattle.std.proofs.lemmas.Bool.{cases_eq}
+use Rattle.std.proofs.lemmas.List.{get_or_read, get_or_default}
+use Rattle.std.proofs.lemmas.List.Elements.{All-nil, All-push, All-weaker, All-contains}
 use Rattle.cnf_core.specs.declared.literal.Lit.{Lit}
 use Rattle.cnf_core.specs.Formula.{IsLitOf, AreOver, negated}
 use Rattle.cnf_core.specs.Values.{Partial, IsHeld, IsFalse, IsFalseClause, IsUnit, IsOpenClause, IsClosed}
@@ -11,22 +12,25 @@ use Rattle.cnf_core.specs.Refutation.{clause_at}
 use Rattle.sat_core.specs.declared.trail.Step.{Step}
 use Rattle.sat_core.specs.declared.watches.Watcher.{Watcher}
 use Rattle.sat_core.specs.declared.watches.Pair.{Pair}
+use Rattle.sat_core.specs.declared.watches.Watches.{Watches}
+use Rattle.sat_core.specs.declared.propagation.Visit.{Visit}
+use Rattle.sat_core.specs.declared.propagation.Visit.TheVariants.{Stays, Moved, Falsified}
 use Rattle.sat_core.specs.FalseClauses.{IsFalsified}
 use Rattle.sat_core.specs.declared.trail.Value.{Value}
 use Rattle.sat_core.specs.Steps.{assignment_of, trail_values, IsReason, IsRightStep, AreSteps, Propagates, AreClosedBefore}
-use Rattle.sat_core.specs.Watches.{no_pair, no_watcher, list_of, watchers, pair_at, IsTrueClause, with_pair, IsWatcher, KeepWatches, ArePassedIn, IsFalsifiedAt, IsReplacement, IsNextReplacement, IsChosen}
+use Rattle.sat_core.specs.Watches.{no_pair, no_watcher, list_of, watchers, pair_at, IsTrueClause, with_pair, IsWatcher, KeepWatches, ArePassedIn, IsFalsifiedAt, IsReplacement, IsNextReplacement, IsPassedOver, AreWatched, ArePassed, VisitSays, SettleSays, IsChosen}
 use Rattle.sat_core.proofs.Holding.{held-push-same}
 use Rattle.sat_core.proofs.Agreeing.{open-agrees}
 use Rattle.sat_core.proofs.States.{agree}
-use Rattle.sat_core.proofs.Quiet.{lit-cases, false-at}
+use Rattle.sat_core.proofs.Quiet.{lit-cases, lit-eq-cases, false-at}
 use Rattle.sat_core.proofs.Attaching.{kept-added}
 use Rattle.sat_core.proofs.Exchanging.{stays-one, IsExchange}
-use Rattle.sat_core.proofs.Watching.{list-within, kept-push, passed-push, passed-next}
+use Rattle.sat_core.proofs.Watching.{list_of-differ, list-within, kept-push, passed-push, passed-next}
 
 -- the watcher at a place of a literal's list
 pub record IsVisit (clauses : List (List Lit)) (n : ℕ) (lists : List (List Watcher)) (pairs : List Pair) (l : Lit) (place : ℕ) (w : Watcher) : Type 0 where
   pub is : w ≡ get_or (watchers lists (list_of l)) place no_watcher
-  pub right : IsWatcher clauses pairs w
+  pub right : IsWatcher clauses pairs (list_of l) w
   pub exists : w.clause < length clauses
   pub over : All (IsLitOf n) (get_or clauses w.clause [])
   pub list : list_of l < length lists
@@ -39,7 +43,7 @@ visit-start clauses n steps lists pairs qhead l place list x w h over at within 
     let few = list-within n (length lists) l at h.count in
     let is-x' : x ≡ watchers lists (list_of l) = get_or_read lists list x (omega arith) is-x [] ∙ ap (watchers lists) is-list in
     let is = is-w ∙ ap (λ (xs : List Watcher). get_or xs place no_watcher) is-x' in
-    let right = subst (IsWatcher clauses pairs) (sym is) (h.right (list_of l) place no_watcher within) in
+    let right = subst (IsWatcher clauses pairs (list_of l)) (sym is) (h.right (list_of l) place no_watcher within) in
     let exists : w.clause < length clauses = (let a = right.exists in let b = h.attached in omega arith) in
     record { is = is; right = right; exists = exists; over = over w.clause [] exists; list = few; within = within }
 
@@ -99,6 +103,21 @@ visit-unit s clauses id c m is few among all not-held not-false =
           });
     }
 
+-- **a clause of two literals**: all but the blocker are false
+pub visit-binary : (clauses : List (List Lit)) (n : ℕ) (steps : List Step) (values : List Value) (indices decisions : List ℕ) (lists : List (List Watcher)) (pairs : List Pair) (qhead : ℕ) (l : Lit) (place : ℕ) (w : Watcher)
+    → AreSteps clauses n steps values indices decisions → IsFalsifiedAt steps qhead l → IsLitOf n l → IsVisit clauses n lists pairs l place w → IsTrue w.binary
+    → All (IsPassedOver (assignment_of values) w.blocker) (get_or clauses w.clause [])
+visit-binary clauses n steps values indices decisions lists pairs qhead l place w s at exist v two k d few =
+    let m = get_or (get_or clauses w.clause []) k d in
+    let exist' = v.over k d few in
+    elim (v.right.binary two k d few) [
+      | inl same ↦ inl same
+      | inr here ↦ elim (lit-eq-cases m l) [
+        | inl same ↦ inr (subst (IsFalse (assignment_of values)) (sym same) (sym (s.shows l.var exist.above exist.within) ∙ false-at clauses steps qhead l s.trail at))
+        | inr other ↦ absurd (list_of-differ m l exist'.above exist.above other here)
+      ]
+    ]
+
 pub visit-step : (clauses : List (List Lit)) (n : ℕ) (steps new : List Step) (lists : List (List Watcher)) (pairs : List Pair) (qhead : ℕ) (l : Lit) (place : ℕ) (w : Watcher) (m : Lit) (id : ℕ)
     → qhead < length steps → new ≡ steps ++ record { lit = m; reason = Some id } ∷ [] → IsVisit clauses n lists pairs l place w → Contains (get_or clauses w.clause []) m
     → IsRightStep clauses steps (record { lit = m; reason = Some id }) → KeepWatches clauses n steps lists pairs qhead → ArePassedIn clauses steps lists pairs qhead (list_of l) place
@@ -114,6 +133,35 @@ visit-step clauses n steps new lists pairs qhead l place w m id within is v amon
   where
     some-id : (id : ℕ) → Some id ≡ None → ⊥
     some-id id e = cc
+
+-- no step yet
+pub propagates-none : (steps : List Step) → Propagates steps steps
+propagates-none steps = ([], sym (append-nil steps), All-nil (λ (s : Step). s.reason ≢ None))
+
+-- **its clause is settled**
+pub visit-settled : (clauses : List (List Lit)) (n : ℕ) (steps new : List Step) (s : Partial) (x : Watches) (l : Lit) (place : ℕ) (w : Watcher) (m : Lit) (v : Visit)
+    → x.qhead < length steps → IsVisit clauses n x.lists.items x.pairs.items l place w → Contains (get_or clauses w.clause []) m → SettleSays clauses w.clause m s steps new v
+    → AreWatched clauses n steps x → ArePassed clauses steps x l place
+    → AreWatched clauses n new x × Propagates steps new × VisitSays clauses new s l place (length (watchers x.lists.items (list_of l))) x v
+visit-settled clauses n steps new s x l place w m Stays within v among (is, right) h passed =
+    let step : Step = record { lit = m; reason = Some (w.clause + 1) } in
+    let done = visit-step clauses n steps new x.lists.items x.pairs.items x.qhead l place w m (w.clause + 1) within is v among right h passed in
+    (done.0, (step ∷ [], is, All-push (λ (y : Step). y.reason ≢ None) [] step (All-nil (λ (y : Step). y.reason ≢ None)) (λ e. cc)), (done.1, refl))
+visit-settled clauses n steps new s x l place w m Moved within v among says h passed = absurd says
+visit-settled clauses n steps new s x l place w m (Falsified id) within v among (same, false') h passed = (
+  subst (λ (ss : List Step). AreWatched clauses n ss x) (sym same) h,
+  subst (Propagates steps) (sym same) (propagates-none steps),
+  false',
+)
+
+-- the same of a result
+pub settled-ok : {T E : Type 0} (r : Result T E) (P : T → Type 0) (Q : Type 0) → IfOk r P → ((v : T) → P v → Q) → OnOk r Q
+settled-ok (Ok v) P Q holds f = f v holds
+settled-ok (Err e) P Q holds f = tt
+
+pub settled-if : {T E : Type 0} (r : Result T E) (P Q : T → Type 0) → IfOk r P → ((v : T) → P v → Q v) → IfOk r Q
+settled-if (Ok v) P Q holds f = f v holds
+settled-if (Err e) P Q holds f = tt
 
 -- **its clause gets another watched literal**
 pub visit-exchange : (clauses : List (List Lit)) (n : ℕ) (steps : List Step) (values : List Value) (indices decisions : List ℕ) (lists : List (List Watcher)) (pairs : List Pair) (qhead : ℕ) (l : Lit) (place : ℕ) (w : Watcher) (other found : Lit) (saved : ℕ) (c : List Lit)
@@ -138,22 +186,38 @@ visit-exchange clauses n steps values indices decisions lists pairs qhead l plac
       free = λ f. free (sym (s.shows found.var at-b.above at-b.within) ∙ f);
     }
 
+-- a clause of two literals has no third one
+both-of : (c : List Lit) (a b : Lit) → length c ≡ 2 → Contains c a → Contains c b → (a ≢ b) → All (λ m. (m ≡ a) ⊎ (m ≡ b)) c
+both-of c a b two (i, in-i, is-a) (j, in-j, is-b) differ k d few =
+    let at-a : get_or c i d ≡ a = get_or_default c i d a in-i ∙ is-a in
+    let at-b : get_or c j d ≡ b = get_or_default c j d b in-j ∙ is-b in
+    elim (cases_eq k i) [
+      | inl same ↦ inl (ap (λ (x : ℕ). get_or c x d) same ∙ at-a)
+      | inr other ↦ elim (cases_eq k j) [
+        | inl same ↦ inr (ap (λ (x : ℕ). get_or c x d) same ∙ at-b)
+        | inr other' ↦
+            (let same : i ≡ j = omega arith in
+            absurd (differ (sym at-a ∙ ap (λ (x : ℕ). get_or c x d) same ∙ at-b)))
+      ]
+    ]
+
 -- **a new clause is attached**
-pub attached : (clauses : List (List Lit)) (n : ℕ) (steps : List Step) (values : List Value) (indices decisions : List ℕ) (lists lists' : List (List Watcher)) (pairs pairs' : List Pair) (qhead qhead' : ℕ) (c : List Lit) (p : Pair)
+pub attached : (clauses : List (List Lit)) (n : ℕ) (steps : List Step) (values : List Value) (indices decisions : List ℕ) (lists lists' : List (List Watcher)) (pairs pairs' : List Pair) (qhead qhead' : ℕ) (c : List Lit) (p : Pair) (binary : Bool)
     → AreSteps clauses n steps values indices decisions → AreOver n clauses → AreClosedBefore clauses steps → KeepWatches clauses n steps lists pairs qhead
     → length pairs < length clauses → IsOpenClause (assignment_of values) (get_or clauses (length pairs) []) → c ≡ get_or clauses (length pairs) [] → IsChosen steps c p
-    → (p.a ≡ p.b → lists' ≡ lists) → (p.a ≢ p.b → lists' ≡ with_pair lists (length pairs) p) → pairs' ≡ pairs ++ p ∷ [] → qhead' ≡ qhead
-    → KeepWatches clauses n steps lists' pairs' qhead'
-attached clauses n steps values indices decisions lists lists' pairs pairs' qhead qhead' c p s over before h more opens is chosen one two is-pairs is-head =
+    → (p.a ≡ p.b → lists' ≡ lists) → (p.a ≢ p.b → lists' ≡ with_pair lists (length pairs) p binary) → pairs' ≡ pairs ++ p ∷ [] → qhead' ≡ qhead
+    → (IsTrue binary → length c ≡ 2) → KeepWatches clauses n steps lists' pairs' qhead'
+attached clauses n steps values indices decisions lists lists' pairs pairs' qhead qhead' c p binary s over before h more opens is chosen one two is-pairs is-head short =
     let clause = get_or clauses (length pairs) [] in
     let chosen' = subst (λ (x : List Lit). IsChosen steps x p) is chosen in
     let exist = over (length pairs) [] more in
     let open' = open-agrees (assignment_of values) (trail_values steps) clause (agree clauses n steps values indices decisions clause s exist) opens in
     subst (λ (ps : List Pair). KeepWatches clauses n steps lists' ps qhead') (sym is-pairs)
     (subst (λ (k : ℕ). KeepWatches clauses n steps lists' (pairs ++ p ∷ []) k) (sym is-head)
-    (kept-added clauses n steps lists lists' pairs qhead p h more chosen' before open'
+    (kept-added clauses n steps lists lists' pairs qhead p binary h more chosen' before open'
     (list-within n (length lists) p.a (All-contains (IsLitOf n) clause p.a exist chosen'.has_a) h.count)
-    (list-within n (length lists) p.b (All-contains (IsLitOf n) clause p.b exist chosen'.has_b) h.count) one two))
+    (list-within n (length lists) p.b (All-contains (IsLitOf n) clause p.b exist chosen'.has_b) h.count) one two
+    (λ t differ. both-of clause p.a p.b (ap length (sym is) ∙ short t) chosen'.has_a chosen'.has_b differ)))
 
 pub chosen-exist : (clauses : List (List Lit)) (n : ℕ) (steps : List Step) (place : ℕ) (c : List Lit) (p : Pair) → AreOver n clauses → place < length clauses → c ≡ get_or clauses place [] → IsChosen steps c p
     → IsLitOf n p.a × IsLitOf n p.b
@@ -169,10 +233,6 @@ pub closed-given : (clauses : List (List Lit)) (n : ℕ) (steps : List Step) (va
 closed-given clauses n steps values indices decisions s over closed k d few =
     let c = get_or clauses k d in
     open-agrees (trail_values steps) (assignment_of values) c (λ m there. sym (agree clauses n steps values indices decisions c s (over k d few) m there)) (closed k d few)
-
--- no step yet
-pub propagates-none : (steps : List Step) → Propagates steps steps
-propagates-none steps = ([], sym (append-nil steps), All-nil (λ (s : Step). s.reason ≢ None))
 
 -- the literal that is opposite to the step at the head
 pub falsified-by : (steps : List Step) (qhead : ℕ) (s : Step) (l : Lit) → qhead < length steps → s ≡ get_or steps qhead s → l ≡ negated s.lit → IsFalsifiedAt steps qhead l

@@ -1,6 +1,6 @@
 -- What the watch lists keep: over steps, over more clauses, and round a list.
 use Rattle.std.proofs.Common.{◌≡◌, ◌≢◌, ℕ, ◌+◌, ◌-◌, ◌*◌, ◌<◌, ◌≤◌, Bool, true, false, cond, List, [], ◌∷◌, ◌++◌, length, take, get_or, refl, sym, ap, ◌∙◌, subst, arith, inl, inr, None, append-nil, append_assoc, min}
-use Rattle.std.specs.Prelude.{◌⊎◌}
+use Rattle.std.specs.Prelude.{◌⊎◌, IsTrue}
 use Rattle.std.specs.List.{All, Contains}
 use Rattle.std.proofs.lemmas.Bool.{cases_eq, cases_lt}
 use Rattle.std.proofs.lemmas.List.{take_at, take_all, take-append-le, take-take, get_or_append_left, get_or_push, get_or-take, get_or_default, length_push, length-append, length-take}
@@ -193,12 +193,14 @@ kept-more clauses more n steps lists pairs qhead h =
       count = h.count;
       attached = omega arith;
       within = h.within;
-      right = λ k. All-weaker (IsWatcher clauses pairs) (IsWatcher (clauses ++ more) pairs) (λ w r.
+      right = λ k. All-weaker (IsWatcher clauses pairs k) (IsWatcher (clauses ++ more) pairs k) (λ w r.
           (let e = r.exists in
+          let same = sym (get_or_append_left clauses more [] w.clause (omega arith)) in
           record {
             exists = e;
-            has_blocker = subst (λ (c : List Lit). Contains c w.blocker) (sym (get_or_append_left clauses more [] w.clause (omega arith))) r.has_blocker;
+            has_blocker = subst (λ (c : List Lit). Contains c w.blocker) same r.has_blocker;
             differ = r.differ;
+            binary = subst (λ (c : List Lit). IsTrue w.binary → All (λ (m : Lit). (m ≡ w.blocker) ⊎ (list_of m ≡ k)) c) same r.binary;
           })) (watchers lists k) (h.right k);
       kept = λ id few. subst (λ (c : List Lit). KeepsWatch steps lists qhead id c (pair_at pairs id)) (sym (get_or_append_left clauses more [] id (omega arith))) (h.kept id few);
     }

@@ -1,6 +1,6 @@
 -- Two watched literals of each clause, and what propagation keeps of them: the field's invariant (Moskewicz and others,
 -- Chaff, 2001), in this project's own form; no public clause cites it.
-use Rattle.std.specs.Prelude.{◌≡◌, ◌≢◌, ℕ, ◌+◌, ◌-◌, ◌*◌, ◌<◌, ◌≤◌, ◌⊎◌, ◌↔◌, false, if◌then◌else◌, List, [], ◌∷◌, ◌++◌, length, take, Option, Some, None, MatchOption, slice_set}
+use Rattle.std.specs.Prelude.{◌≡◌, ◌≢◌, ℕ, ◌+◌, ◌-◌, ◌*◌, ◌<◌, ◌≤◌, ◌⊎◌, ◌↔◌, Bool, false, IsTrue, if◌then◌else◌, List, [], ◌∷◌, ◌++◌, length, take, Option, Some, None, MatchOption, slice_set}
 use Rattle.std.specs.List.{slice_index_or, All, AllWithin, Contains}
 use Rattle.cnf_core.specs.declared.literal.Lit.{Lit}
 use Rattle.cnf_core.specs.Formula.{negated}
@@ -12,7 +12,7 @@ use Rattle.sat_core.specs.declared.watches.Watches.{Watches}
 use Rattle.sat_core.specs.declared.propagation.Visit.{Visit}
 use Rattle.sat_core.specs.declared.propagation.Visit.TheVariants.{Stays, Moved, Falsified}
 use Rattle.sat_core.specs.FalseClauses.{IsFalsified}
-use Rattle.sat_core.specs.Steps.{trail_values}
+use Rattle.sat_core.specs.Steps.{trail_values, IsRightStep}
 
 abbrev pub no_literal : Lit
 no_literal = record { var = 0; positive = false }
@@ -22,7 +22,7 @@ no_pair = record { a = no_literal; b = no_literal; saved = 0 }
 
 -- what stands past the end of a list
 abbrev pub no_watcher : Watcher
-no_watcher = record { clause = 0; blocker = no_literal }
+no_watcher = record { clause = 0; blocker = no_literal; binary = false }
 
 -- the place of a literal's list
 abbrev pub list_of : Lit → ℕ
@@ -55,7 +55,7 @@ with_watcher lists k w = slice_set lists k (watchers lists k ++ w ∷ [])
 
 -- the watcher at a place with another blocker
 abbrev pub watcher_with : List Watcher → ℕ → Lit → Watcher
-watcher_with list place blocker = record { clause = (slice_index_or list place no_watcher).clause; blocker = blocker }
+watcher_with list place blocker = record (slice_index_or list place no_watcher) { blocker = blocker }
 
 -- the lists with it
 abbrev pub with_blocker : List (List Watcher) → ℕ → ℕ → Lit → List (List Watcher)
@@ -67,28 +67,30 @@ pub record IsMoved (list place clause : ℕ) (pair : Pair) (old new : Watches) :
   pub rest : List Watcher
   pub removed : IsRemoved (watchers old.lists.items list) place rest
   pub lists : new.lists.items ≡ with_watcher (slice_set old.lists.items list rest) (list_of pair.b)
-      (record { clause = clause; blocker = pair.a })
+      (record { clause = clause; blocker = pair.a; binary = false })
   pub pairs : new.pairs.items ≡ slice_set old.pairs.items clause pair
   pub qhead : new.qhead ≡ old.qhead
 
 -- what the lists hold of a new clause: nothing, or each of its two watched literals, blocked by the other
-abbrev pub with_pair : List (List Watcher) → ℕ → Pair → List (List Watcher)
-with_pair lists id p =
-    with_watcher (with_watcher lists (list_of p.a) (record { clause = id; blocker = p.b })) (list_of p.b)
-    (record { clause = id; blocker = p.a })
+abbrev pub with_pair : List (List Watcher) → ℕ → Pair → Bool → List (List Watcher)
+with_pair lists id p binary =
+    with_watcher (with_watcher lists (list_of p.a) (record { clause = id; blocker = p.b; binary = binary }))
+    (list_of p.b) (record { clause = id; blocker = p.a; binary = binary })
 
 -- a clause was added at the end, with its watched literals
-pub record IsAdded (pair : Pair) (old new : Watches) : Type 0 where
+pub record IsAdded (pair : Pair) (binary : Bool) (old new : Watches) : Type 0 where
   pub one : pair.a ≡ pair.b → new.lists.items ≡ old.lists.items
-  pub two : pair.a ≢ pair.b → new.lists.items ≡ with_pair old.lists.items (length old.pairs.items) pair
+  pub two : pair.a ≢ pair.b → new.lists.items ≡ with_pair old.lists.items (length old.pairs.items) pair binary
   pub pairs : new.pairs.items ≡ old.pairs.items ++ pair ∷ []
   pub qhead : new.qhead ≡ old.qhead
 
--- a watcher in a list: its clause was visited and has two watched literals, and the blocker is one of its literals
-pub record IsWatcher (clauses : List (List Lit)) (pairs : List Pair) (w : Watcher) : Type 0 where
+-- a watcher in the list at a place: its clause was visited and has two watched literals, and the blocker is one of its
+-- literals; where it is binary, each other one is of this list
+pub record IsWatcher (clauses : List (List Lit)) (pairs : List Pair) (list : ℕ) (w : Watcher) : Type 0 where
   pub exists : w.clause < length pairs
   pub has_blocker : Contains (slice_index_or clauses w.clause []) w.blocker
   pub differ : (pair_at pairs w.clause).a ≢ (pair_at pairs w.clause).b
+  pub binary : IsTrue w.binary → All (λ m. (m ≡ w.blocker) ⊎ (list_of m ≡ list)) (slice_index_or clauses w.clause [])
 
 -- a literal of the clause is true
 abbrev pub IsTrueClause : Partial → List Lit → Type 0
@@ -117,7 +119,7 @@ pub record KeepWatches (clauses : List (List Lit)) (n : ℕ) (steps : List Step)
   pub count : length lists ≡ 2 * n
   pub attached : length pairs ≤ length clauses
   pub within : qhead ≤ length steps
-  pub right : (k : ℕ) → All (IsWatcher clauses pairs) (watchers lists k)
+  pub right : (k : ℕ) → All (IsWatcher clauses pairs k) (watchers lists k)
   pub kept : (id : ℕ) → id < length pairs
       → KeepsWatch steps lists qhead id (slice_index_or clauses id []) (pair_at pairs id)
 
@@ -170,6 +172,15 @@ VisitSays clauses steps s l place count w Stays =
 VisitSays clauses steps s l place count w Moved =
     ArePassed clauses steps w l place × (length (watchers w.lists.items (list_of l)) + 1 ≡ count)
 VisitSays clauses steps s l place count w (Falsified id) = IsFalsified s clauses id
+
+-- what settles the clause at a place, all of whose literals but this one are false: the literal is made true, or the
+-- clause is false and nothing is done
+abbrev pub SettleSays : List (List Lit) → ℕ → Lit → Partial → List Step → List Step → Visit → Type 0
+SettleSays clauses place l s old new Stays =
+    (new ≡ old ++ record { lit = l; reason = Some (place + 1) } ∷ [])
+    × IsRightStep clauses old (record { lit = l; reason = Some (place + 1) })
+SettleSays clauses place l s old new Moved = ⊥
+SettleSays clauses place l s old new (Falsified id) = (new ≡ old) × IsFalsified s clauses id
 
 -- every clause and every step was visited
 pub record AreVisited (clauses : List (List Lit)) (steps : List Step) (w : Watches) : Type 0 where

@@ -1,11 +1,11 @@
 // Unit propagation by two watched literals.
 ghost use Rattle.std.specs.Prelude.{◌≡◌, ◌≢◌, ◌⊎◌, ◌+◌, ◌^◌, ◌<◌, ◌≤◌, [], length, OnOk, IfOk, MatchOption, None, slice_index_or};
-ghost use Rattle.std.specs.List.{All, AllWithin};
+ghost use Rattle.std.specs.List.{All, AllWithin, Contains};
 ghost use Rattle.cnf_core.specs.Formula.{AreOver, IsLitOf};
-ghost use Rattle.cnf_core.specs.Values.{IsClosed, IsOpenClause, IsFalse};
+ghost use Rattle.cnf_core.specs.Values.{IsClosed, IsOpenClause, IsHeld, IsFalse};
 ghost use Rattle.sat_core.specs.Steps.{assignment_of, var_count, IsTrailState, Propagates, AreClosedBefore};
 ghost use Rattle.sat_core.specs.FalseClauses.{IsFalsified};
-ghost use Rattle.sat_core.specs.Watches.{list_of, watchers, AreWatched, ArePassed, IsFalsifiedAt, IsPassedOver, IsFirstWithin, IsNextReplacement, VisitSays, AreVisited};
+ghost use Rattle.sat_core.specs.Watches.{list_of, watchers, AreWatched, ArePassed, IsFalsifiedAt, IsPassedOver, IsFirstWithin, IsNextReplacement, VisitSays, SettleSays, AreVisited};
 
 use crate::choice::watched_pair;
 use crate::trail::{Step, Trail};
@@ -121,8 +121,9 @@ fn attach(clauses: &Clauses, trail: &Trail, watches: &mut Watches) -> Result<(),
     ensures watched { OnOk result (AreWatched clauses.now (var_count trail.now) trail.now.steps.items watches.new) }
     ensures count { OnOk result (length watches.new.pairs.items ≡ length watches.old.pairs.items + 1) }
 {
-    let pair = watched_pair(clauses.get(watches.pairs.len()), trail);
-    watches.add(pair)?;
+    let clause = clauses.get(watches.pairs.len());
+    let pair = watched_pair(clause, trail);
+    watches.add(pair, clause.len() == 2)?;
     Ok(())
 }
 
@@ -187,6 +188,9 @@ fn visit_watcher(
     if trail.is_true(watcher.blocker) {
         return Ok(Visit::Stays);
     }
+    if watcher.binary {
+        return settle(clauses, trail, watcher.clause, watcher.blocker);
+    }
     let old = watches.pairs[watcher.clause as usize];
     let other = other_than(old, lit);
     if trail.is_true(other) {
@@ -205,18 +209,34 @@ fn visit_watcher(
             watches.move_watch(list, place, watcher.clause, pair)?;
             Ok(Visit::Moved)
         }
-        None => {
-            let id = watcher.clause + 1;
-            if trail.is_false(other) {
-                return Ok(Visit::Falsified(id));
-            }
-            trail.assign(Step {
-                lit: other,
-                reason: Some(id),
-            })?;
-            Ok(Visit::Stays)
-        }
+        None => settle(clauses, trail, watcher.clause, other),
     }
+}
+
+/// Settles the clause at a place, all of whose literals but this one are false, while this one isn't true: makes it true,
+/// or the clause is false.
+fn settle(clauses: &Clauses, trail: &mut Trail, place: u32, lit: Lit) -> Result<Visit, NoMemory>
+    requires few { length clauses.now < 2 ^ 31 }
+    requires exist { AreOver (var_count trail.old) clauses.now }
+    requires state { IsTrailState clauses.now (var_count trail.old) trail.old }
+    requires place { place < length clauses.now }
+    requires among { Contains (slice_index_or clauses.now place []) lit }
+    requires others { All (IsPassedOver (assignment_of trail.old.values.items) lit)
+        (slice_index_or clauses.now place []) }
+    requires not_true { IsHeld (assignment_of trail.old.values.items) lit → ⊥ }
+    ensures state { OnOk result (IsTrailState clauses.now (var_count trail.old) trail.new) }
+    ensures says { IfOk result (SettleSays clauses.now place lit (assignment_of trail.new.values.items)
+        trail.old.steps.items trail.new.steps.items) }
+{
+    let id = place + 1;
+    if trail.is_false(lit) {
+        return Ok(Visit::Falsified(id));
+    }
+    trail.assign(Step {
+        lit,
+        reason: Some(id),
+    })?;
+    Ok(Visit::Stays)
 }
 
 /// The other one of two watched literals.

@@ -13,6 +13,8 @@ use std::marker::Model;
 pub(crate) struct Watcher {
     pub(crate) clause: u32,
     pub(crate) blocker: Lit,
+    /// The clause has no literal but the blocker and the one that is watched here.
+    pub(crate) binary: bool,
 }
 
 /// The watched literals of a clause: two different ones, or the same twice where it has no other.
@@ -119,24 +121,26 @@ impl Watches {
         self.lists[list].watchers[place].blocker = blocker;
     }
 
-    /// Adds a clause, the next one, with its watched literals.
-    pub(crate) fn add(&mut self, pair: Pair) -> Result<(), NoMemory>
+    /// Adds a clause, the next one, with its watched literals, which are all that it has where it is binary.
+    pub(crate) fn add(&mut self, pair: Pair, binary: bool) -> Result<(), NoMemory>
         requires few { length self.old.pairs.items < 2 ^ 31 }
         requires above_a { 1 ≤ pair.a.var }
         requires above_b { 1 ≤ pair.b.var }
         requires list_a { list_of pair.a < length self.old.lists.items }
         requires list_b { list_of pair.b < length self.old.lists.items }
-        ensures { OnOk result (IsAdded pair self.old self.new) }
+        ensures { OnOk result (IsAdded pair binary self.old self.new) }
     {
         if pair.a != pair.b {
             let clause = self.pairs.len() as u32;
             let first = Watcher {
                 clause,
                 blocker: pair.b,
+                binary,
             };
             let second = Watcher {
                 clause,
                 blocker: pair.a,
+                binary,
             };
             self.watch(list_place(pair.a), first)?;
             self.watch(list_place(pair.b), second)?;
@@ -167,6 +171,7 @@ impl Watches {
             Watcher {
                 clause,
                 blocker: pair.a,
+                binary: false,
             },
         )
     }

@@ -1,4 +1,5 @@
 use Rattle.std.proofs.Common.{◌≡◌, ℕ, [], length, get_or, ap, sym, ◌∙◌}
+use Rattle.std.proofs.lemmas.Bool.{eqb-true}
 use Rattle.std.proofs.lemmas.Option.{get_or_from_slice_get}
 use Rattle.sat_core.specs.Steps.{var_count}
 use Rattle.sat_core.proofs.Watching.{list-within}
@@ -11,9 +12,9 @@ add-requires-clause-above_a c =
     let n = var_count c.args.trail.now in
     let w = c.args.watches.now in
     let p = c.watched_pair-pair.result in
-    let is : c.get.result.now ≡ get_or clauses (length w.pairs.items) [] =
-    sym (get_or_from_slice_get clauses c.len.result c.get.result.now [] c.get.ensures) ∙ ap (λ (k : ℕ). get_or clauses k []) (c.len.ensures ∙ w.pairs.ok.0) in
-    let at = (chosen-exist clauses n c.args.trail.now.steps.items (length w.pairs.items) c.get.result.now p c.requires.exist c.requires.more is (c.watched_pair-pair.ensures clauses c.requires.state)).0 in
+    let is : c.get-clause.result.now ≡ get_or clauses (length w.pairs.items) [] =
+    sym (get_or_from_slice_get clauses c.len.result c.get-clause.result.now [] c.get-clause.ensures) ∙ ap (λ (k : ℕ). get_or clauses k []) (c.len.ensures ∙ w.pairs.ok.0) in
+    let at = (chosen-exist clauses n c.args.trail.now.steps.items (length w.pairs.items) c.get-clause.result.now p c.requires.exist c.requires.more is (c.watched_pair-pair.ensures clauses c.requires.state)).0 in
     at.above
 
 pub add-requires-clause-list_a : goal.add-requires-clause-list_a
@@ -22,9 +23,9 @@ add-requires-clause-list_a c =
     let n = var_count c.args.trail.now in
     let w = c.args.watches.now in
     let p = c.watched_pair-pair.result in
-    let is : c.get.result.now ≡ get_or clauses (length w.pairs.items) [] =
-    sym (get_or_from_slice_get clauses c.len.result c.get.result.now [] c.get.ensures) ∙ ap (λ (k : ℕ). get_or clauses k []) (c.len.ensures ∙ w.pairs.ok.0) in
-    let at = (chosen-exist clauses n c.args.trail.now.steps.items (length w.pairs.items) c.get.result.now p c.requires.exist c.requires.more is (c.watched_pair-pair.ensures clauses c.requires.state)).0 in
+    let is : c.get-clause.result.now ≡ get_or clauses (length w.pairs.items) [] =
+    sym (get_or_from_slice_get clauses c.len.result c.get-clause.result.now [] c.get-clause.ensures) ∙ ap (λ (k : ℕ). get_or clauses k []) (c.len.ensures ∙ w.pairs.ok.0) in
+    let at = (chosen-exist clauses n c.args.trail.now.steps.items (length w.pairs.items) c.get-clause.result.now p c.requires.exist c.requires.more is (c.watched_pair-pair.ensures clauses c.requires.state)).0 in
     list-within n (length w.lists.items) p.a at c.requires.watched.count
 
 pub add-requires-clause-above_b : goal.add-requires-clause-above_b
@@ -33,9 +34,9 @@ add-requires-clause-above_b c =
     let n = var_count c.args.trail.now in
     let w = c.args.watches.now in
     let p = c.watched_pair-pair.result in
-    let is : c.get.result.now ≡ get_or clauses (length w.pairs.items) [] =
-    sym (get_or_from_slice_get clauses c.len.result c.get.result.now [] c.get.ensures) ∙ ap (λ (k : ℕ). get_or clauses k []) (c.len.ensures ∙ w.pairs.ok.0) in
-    let at = (chosen-exist clauses n c.args.trail.now.steps.items (length w.pairs.items) c.get.result.now p c.requires.exist c.requires.more is (c.watched_pair-pair.ensures clauses c.requires.state)).1 in
+    let is : c.get-clause.result.now ≡ get_or clauses (length w.pairs.items) [] =
+    sym (get_or_from_slice_get clauses c.len.result c.get-clause.result.now [] c.get-clause.ensures) ∙ ap (λ (k : ℕ). get_or clauses k []) (c.len.ensures ∙ w.pairs.ok.0) in
+    let at = (chosen-exist clauses n c.args.trail.now.steps.items (length w.pairs.items) c.get-clause.result.now p c.requires.exist c.requires.more is (c.watched_pair-pair.ensures clauses c.requires.state)).1 in
     at.above
 
 pub add-requires-clause-list_b : goal.add-requires-clause-list_b
@@ -44,9 +45,9 @@ add-requires-clause-list_b c =
     let n = var_count c.args.trail.now in
     let w = c.args.watches.now in
     let p = c.watched_pair-pair.result in
-    let is : c.get.result.now ≡ get_or clauses (length w.pairs.items) [] =
-    sym (get_or_from_slice_get clauses c.len.result c.get.result.now [] c.get.ensures) ∙ ap (λ (k : ℕ). get_or clauses k []) (c.len.ensures ∙ w.pairs.ok.0) in
-    let at = (chosen-exist clauses n c.args.trail.now.steps.items (length w.pairs.items) c.get.result.now p c.requires.exist c.requires.more is (c.watched_pair-pair.ensures clauses c.requires.state)).1 in
+    let is : c.get-clause.result.now ≡ get_or clauses (length w.pairs.items) [] =
+    sym (get_or_from_slice_get clauses c.len.result c.get-clause.result.now [] c.get-clause.ensures) ∙ ap (λ (k : ℕ). get_or clauses k []) (c.len.ensures ∙ w.pairs.ok.0) in
+    let at = (chosen-exist clauses n c.args.trail.now.steps.items (length w.pairs.items) c.get-clause.result.now p c.requires.exist c.requires.more is (c.watched_pair-pair.ensures clauses c.requires.state)).1 in
     list-within n (length w.lists.items) p.b at c.requires.watched.count
 
 pub returns-clause-watched : goal.returns-clause-watched
@@ -57,8 +58,8 @@ returns-clause-watched c =
     let w = c.args.watches.now in
     let w' = c.add.new.self in
     let p = c.watched_pair-pair.result in
-    let is : c.get.result.now ≡ get_or clauses (length w.pairs.items) [] =
-    sym (get_or_from_slice_get clauses c.len.result c.get.result.now [] c.get.ensures) ∙ ap (λ (k : ℕ). get_or clauses k []) (c.len.ensures ∙ w.pairs.ok.0) in
+    let is : c.get-clause.result.now ≡ get_or clauses (length w.pairs.items) [] =
+    sym (get_or_from_slice_get clauses c.len.result c.get-clause.result.now [] c.get-clause.ensures) ∙ ap (λ (k : ℕ). get_or clauses k []) (c.len.ensures ∙ w.pairs.ok.0) in
     let e = c.in_ok-add.ensures in
-    attached clauses n t.steps.items t.values.items t.indices.items t.decisions.items w.lists.items w'.lists.items w.pairs.items w'.pairs.items w.qhead w'.qhead c.get.result.now p
-    c.requires.state c.requires.exist c.requires.before c.requires.watched c.requires.more c.requires.opens is (c.watched_pair-pair.ensures clauses c.requires.state) e.one e.two e.pairs e.qhead
+    attached clauses n t.steps.items t.values.items t.indices.items t.decisions.items w.lists.items w'.lists.items w.pairs.items w'.pairs.items w.qhead w'.qhead c.get-clause.result.now p _
+    c.requires.state c.requires.exist c.requires.before c.requires.watched c.requires.more c.requires.opens is (c.watched_pair-pair.ensures clauses c.requires.state) e.one e.two e.pairs e.qhead (λ two. eqb-true (length c.get-clause.result.now) 2 two)

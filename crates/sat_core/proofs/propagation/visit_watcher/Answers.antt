@@ -1,18 +1,17 @@
-use Rattle.std.proofs.Common.{◌≡◌, ℕ, ◌+◌, [], List, Vec, Global, length, set, get_or, refl, ap, sym, ◌∙◌, subst}
+use Rattle.std.proofs.Common.{◌≡◌, ℕ, false, ◌+◌, [], List, Vec, Global, length, set, get_or, refl, ap, sym, ◌∙◌, subst}
 use Rattle.std.specs.List.{All, Contains}
-use Rattle.std.proofs.lemmas.Bool.{iff_false}
+use Rattle.std.proofs.lemmas.Bool.{false≢true}
 use Rattle.std.proofs.lemmas.Option.{get_or_from_slice_get}
 use Rattle.std.proofs.lemmas.List.Elements.{All-contains, Contains-get_or}
 use Rattle.cnf_core.specs.Formula.{IsLitOf}
 use Rattle.sat_core.specs.declared.watches.Pair.{Pair}
-use Rattle.sat_core.specs.Steps.{assignment_of, var_count}
+use Rattle.sat_core.specs.Steps.{assignment_of, var_count, Propagates}
 use Rattle.sat_core.specs.declared.watches.Watcher.{Watcher}
-use Rattle.sat_core.specs.Watches.{no_literal, list_of, watchers, with_watcher, with_blocker, IsRemoved, KeepWatches, ArePassedIn}
-use Rattle.sat_core.proofs.States.{reason-right}
+use Rattle.sat_core.specs.Watches.{no_literal, list_of, watchers, with_watcher, with_blocker, IsRemoved, KeepWatches, ArePassedIn, AreWatched, IsPassedOver, VisitSays, SettleSays}
 use Rattle.sat_core.proofs.Exchanging.{exchanged-lists, kept-moved, passed-moved, fewer-moved}
 use Rattle.sat_core.proofs.Watching.{list-within}
 use Rattle.sat_core.proofs.Renewing.{kept-renewed, passed-renewed, length-renewed}
-use Rattle.sat_core.proofs.Visiting.{next-is, visit-start, visit-other, visit-true, visit-falsified, visit-unit, visit-step, visit-exchange}
+use Rattle.sat_core.proofs.Visiting.{next-is, visit-start, visit-other, visit-true, visit-binary, visit-settled, settled-ok, settled-if, visit-exchange}
 use Rattle.sat_core.proofs.propagation.visit_watcher.Goals as goal
 
 pub returns-then-is_true-clause-says : goal.returns-then-is_true-clause-says
@@ -71,7 +70,69 @@ returns-then-is_true-2-clause-watched c =
     subst (λ (k : ℕ). KeepWatches clauses n steps w'.lists.items w'.pairs.items k) (sym c.renew.ensures.qhead)
     (subst (λ (ls : List (List Watcher)). KeepWatches clauses n steps ls w'.pairs.items w.qhead) (sym lists)
     (subst (λ (ps : Vec Pair Global). KeepWatches clauses n steps (with_blocker w.lists.items (list_of l) place other) ps.items w.qhead) (sym c.renew.ensures.pairs)
-    (kept-renewed clauses n steps w.lists.items w.pairs.items w.qhead (list_of l) place other v.list v.within among c.requires.watched)))
+    (kept-renewed clauses n steps w.lists.items w.pairs.items w.qhead (list_of l) place other v.list v.within among (λ two. false≢true (sym c.if-watcher.false ∙ ap (λ (x : Watcher). x.binary) v.is ∙ two)) c.requires.watched)))
+
+pub settle-requires-clause-others : goal.settle-requires-clause-others
+settle-requires-clause-others c =
+    let clauses = c.args.clauses.now in
+    let t = c.args.trail.now in
+    let n = var_count t in
+    let w = c.args.watches.now in
+    let l = c.args.lit in
+    let place = c.args.place in
+    let watcher = c.get-watcher.result in
+    let steps = t.steps.items in
+    let v = visit-start clauses n steps w.lists.items w.pairs.items w.qhead l place c.list_place-list.result c.index.result.now watcher c.requires.watched c.requires.exist c.requires.lit c.requires.place c.list_place-list.ensures c.index.ensures c.get-watcher.ensures in
+    visit-binary clauses n steps t.values.items t.indices.items t.decisions.items w.lists.items w.pairs.items w.qhead l place watcher c.requires.state c.requires.qhead c.requires.lit v c.if-watcher.true
+
+pub returns-then-watcher-clause-watched : goal.returns-then-watcher-clause-watched
+returns-then-watcher-clause-watched c =
+    let clauses = c.args.clauses.now in
+    let t = c.args.trail.now in
+    let n = var_count t in
+    let w = c.args.watches.now in
+    let l = c.args.lit in
+    let place = c.args.place in
+    let watcher = c.get-watcher.result in
+    let steps = t.steps.items in
+    let v = visit-start clauses n steps w.lists.items w.pairs.items w.qhead l place c.list_place-list.result c.index.result.now watcher c.requires.watched c.requires.exist c.requires.lit c.requires.place c.list_place-list.ensures c.index.ensures c.get-watcher.ensures in
+    let new = c.settle.new.trail in
+    let s = assignment_of new.values.items in
+    settled-ok c.settle.result (SettleSays clauses watcher.clause watcher.blocker s steps new.steps.items) (AreWatched clauses n new.steps.items w) c.settle.ensures.says
+    (λ x says. (visit-settled clauses n steps new.steps.items s w l place watcher watcher.blocker x c.requires.qhead.within v v.right.has_blocker says c.requires.watched c.requires.passed).0)
+
+pub returns-then-watcher-clause-adds : goal.returns-then-watcher-clause-adds
+returns-then-watcher-clause-adds c =
+    let clauses = c.args.clauses.now in
+    let t = c.args.trail.now in
+    let n = var_count t in
+    let w = c.args.watches.now in
+    let l = c.args.lit in
+    let place = c.args.place in
+    let watcher = c.get-watcher.result in
+    let steps = t.steps.items in
+    let v = visit-start clauses n steps w.lists.items w.pairs.items w.qhead l place c.list_place-list.result c.index.result.now watcher c.requires.watched c.requires.exist c.requires.lit c.requires.place c.list_place-list.ensures c.index.ensures c.get-watcher.ensures in
+    let new = c.settle.new.trail in
+    let s = assignment_of new.values.items in
+    settled-ok c.settle.result (SettleSays clauses watcher.clause watcher.blocker s steps new.steps.items) (Propagates steps new.steps.items) c.settle.ensures.says
+    (λ x says. (visit-settled clauses n steps new.steps.items s w l place watcher watcher.blocker x c.requires.qhead.within v v.right.has_blocker says c.requires.watched c.requires.passed).1)
+
+pub returns-then-watcher-clause-says : goal.returns-then-watcher-clause-says
+returns-then-watcher-clause-says c =
+    let clauses = c.args.clauses.now in
+    let t = c.args.trail.now in
+    let n = var_count t in
+    let w = c.args.watches.now in
+    let l = c.args.lit in
+    let place = c.args.place in
+    let watcher = c.get-watcher.result in
+    let steps = t.steps.items in
+    let v = visit-start clauses n steps w.lists.items w.pairs.items w.qhead l place c.list_place-list.result c.index.result.now watcher c.requires.watched c.requires.exist c.requires.lit c.requires.place c.list_place-list.ensures c.index.ensures c.get-watcher.ensures in
+    let new = c.settle.new.trail in
+    let s = assignment_of new.values.items in
+    settled-if c.settle.result (SettleSays clauses watcher.clause watcher.blocker s steps new.steps.items)
+    (VisitSays clauses new.steps.items s l place (length (watchers w.lists.items (list_of l))) w) c.settle.ensures.says
+    (λ x says. (visit-settled clauses n steps new.steps.items s w l place watcher watcher.blocker x c.requires.qhead.within v v.right.has_blocker says c.requires.watched c.requires.passed).2)
 
 pub replacement-requires : goal.replacement-requires
 replacement-requires c =
@@ -119,20 +180,6 @@ move_watch-requires-clause-new_list c =
     let at = All-contains (IsLitOf n) c.get-clause.result.now (get_or c.get-clause.result.now c.in-Some.at no_literal) (subst (All (IsLitOf n)) (sym is) v.over) among in
     list-within n (length w.lists.items) (get_or c.get-clause.result.now c.in-Some.at no_literal) at c.requires.watched.count
 
-pub returns-then-is_false-clause-says : goal.returns-then-is_false-clause-says
-returns-then-is_false-clause-says c =
-    let clauses = c.args.clauses.now in
-    let t = c.args.trail.now in
-    let n = var_count t in
-    let w = c.args.watches.now in
-    let l = c.args.lit in
-    let place = c.args.place in
-    let watcher = c.get-watcher.result in
-    let steps = t.steps.items in
-    let v = visit-start clauses n steps w.lists.items w.pairs.items w.qhead l place c.list_place-list.result c.index.result.now watcher c.requires.watched c.requires.exist c.requires.lit c.requires.place c.list_place-list.ensures c.index.ensures c.get-watcher.ensures in
-    let is : c.get-clause.result.now ≡ get_or clauses watcher.clause [] = sym (get_or_from_slice_get clauses watcher.clause c.get-clause.result.now [] c.get-clause.ensures) in
-    visit-falsified (assignment_of t.values.items) clauses watcher.clause c.get-clause.result.now c.other_than-other.result is v.exists c.in-None.ensures (c.is_false.ensures.0 c.if-is_false.true)
-
 pub returns-in_ok-move_watch-in-Some-clause-watched : goal.returns-in_ok-move_watch-in-Some-clause-watched
 returns-in_ok-move_watch-in-Some-clause-watched c =
     let clauses = c.args.clauses.now in
@@ -151,7 +198,7 @@ returns-in_ok-move_watch-in-Some-clause-watched c =
     let pair : Pair = record { a = other; b = (get_or c.get-clause.result.now c.in-Some.at no_literal); saved = c.in-Some.at } in
     let e = c.in_ok-move_watch-in-Some.ensures in
     let removed = subst (λ (k : ℕ). IsRemoved (watchers w.lists.items k) place e.rest) c.list_place-list.ensures e.removed in
-    let lists : w'.lists.items ≡ exchanged-lists w.lists.items l e.rest watcher.clause pair = e.lists ∙ ap (λ (k : ℕ). with_watcher (set w.lists.items k e.rest) (list_of pair.b) (record { clause = watcher.clause; blocker = other })) c.list_place-list.ensures in
+    let lists : w'.lists.items ≡ exchanged-lists w.lists.items l e.rest watcher.clause pair = e.lists ∙ ap (λ (k : ℕ). with_watcher (set w.lists.items k e.rest) (list_of pair.b) (record { clause = watcher.clause; blocker = other; binary = false })) c.list_place-list.ensures in
     let x = visit-exchange clauses n steps t.values.items t.indices.items t.decisions.items w.lists.items w.pairs.items w.qhead l place watcher other (get_or c.get-clause.result.now c.in-Some.at no_literal) c.in-Some.at c.get-clause.result.now
     c.requires.state c.requires.watched c.requires.qhead c.requires.lit v o is (Contains-get_or c.get-clause.result.now c.in-Some.at no_literal (next-is c.in-Some.ensures).within) ((next-is c.in-Some.ensures).differ no_literal) ((next-is c.in-Some.ensures).free no_literal) in
     subst (λ (k : ℕ). KeepWatches clauses n steps w'.lists.items w'.pairs.items k) (sym e.qhead)
@@ -177,7 +224,7 @@ returns-in_ok-move_watch-in-Some-clause-says c =
     let pair : Pair = record { a = other; b = (get_or c.get-clause.result.now c.in-Some.at no_literal); saved = c.in-Some.at } in
     let e = c.in_ok-move_watch-in-Some.ensures in
     let removed = subst (λ (k : ℕ). IsRemoved (watchers w.lists.items k) place e.rest) c.list_place-list.ensures e.removed in
-    let lists : w'.lists.items ≡ exchanged-lists w.lists.items l e.rest watcher.clause pair = e.lists ∙ ap (λ (k : ℕ). with_watcher (set w.lists.items k e.rest) (list_of pair.b) (record { clause = watcher.clause; blocker = other })) c.list_place-list.ensures in
+    let lists : w'.lists.items ≡ exchanged-lists w.lists.items l e.rest watcher.clause pair = e.lists ∙ ap (λ (k : ℕ). with_watcher (set w.lists.items k e.rest) (list_of pair.b) (record { clause = watcher.clause; blocker = other; binary = false })) c.list_place-list.ensures in
     let x = visit-exchange clauses n steps t.values.items t.indices.items t.decisions.items w.lists.items w.pairs.items w.qhead l place watcher other (get_or c.get-clause.result.now c.in-Some.at no_literal) c.in-Some.at c.get-clause.result.now
     c.requires.state c.requires.watched c.requires.qhead c.requires.lit v o is (Contains-get_or c.get-clause.result.now c.in-Some.at no_literal (next-is c.in-Some.ensures).within) ((next-is c.in-Some.ensures).differ no_literal) ((next-is c.in-Some.ensures).free no_literal) in (
       subst (λ (k : ℕ). ArePassedIn clauses steps w'.lists.items w'.pairs.items k (list_of l) place) (sym e.qhead)
@@ -188,26 +235,14 @@ returns-in_ok-move_watch-in-Some-clause-says c =
           (fewer-moved clauses steps w.lists.items w.pairs.items l place watcher.clause pair e.rest x removed),
     )
 
-pub returns-in_ok-assign-in-None-clause-state : goal.returns-in_ok-assign-in-None-clause-state
-returns-in_ok-assign-in-None-clause-state c =
-    let clauses = c.args.clauses.now in
-    let t = c.args.trail.now in
-    let n = var_count t in
-    let w = c.args.watches.now in
-    let l = c.args.lit in
-    let place = c.args.place in
-    let watcher = c.get-watcher.result in
-    let steps = t.steps.items in
-    let v = visit-start clauses n steps w.lists.items w.pairs.items w.qhead l place c.list_place-list.result c.index.result.now watcher c.requires.watched c.requires.exist c.requires.lit c.requires.place c.list_place-list.ensures c.index.ensures c.get-watcher.ensures in
-    let other = c.other_than-other.result in
-    let o = visit-other clauses n steps w.lists.items w.pairs.items w.qhead l place watcher c.index-old.result.now other c.requires.watched v c.index-old.ensures c.other_than-other.ensures in
-    let is : c.get-clause.result.now ≡ get_or clauses watcher.clause [] = sym (get_or_from_slice_get clauses watcher.clause c.get-clause.result.now [] c.get-clause.ensures) in
-    let r = visit-unit (assignment_of t.values.items) clauses watcher.clause c.get-clause.result.now other is v.exists o.among c.in-None.ensures (iff_false c.is_true-2.ensures c.if-is_true-2.false) (iff_false c.is_false.ensures c.if-is_false.false) in
-    let right = reason-right clauses n steps t.values.items t.indices.items t.decisions.items other (watcher.clause + 1) c.requires.state c.requires.exist r in
-    c.in_ok-assign-in-None.ensures.state clauses c.requires.state right.1
+pub settle-requires-in-None-clause-others : goal.settle-requires-in-None-clause-others
+settle-requires-in-None-clause-others c =
+    let is : c.get-clause.result.now ≡ get_or c.args.clauses.now c.get-watcher.result.clause [] =
+    sym (get_or_from_slice_get c.args.clauses.now c.get-watcher.result.clause c.get-clause.result.now [] c.get-clause.ensures) in
+    subst (All (IsPassedOver (assignment_of c.args.trail.now.values.items) c.other_than-other.result)) is c.in-None.ensures
 
-pub returns-in_ok-assign-in-None-clause-watched : goal.returns-in_ok-assign-in-None-clause-watched
-returns-in_ok-assign-in-None-clause-watched c =
+pub returns-in-None-clause-watched : goal.returns-in-None-clause-watched
+returns-in-None-clause-watched c =
     let clauses = c.args.clauses.now in
     let t = c.args.trail.now in
     let n = var_count t in
@@ -219,14 +254,13 @@ returns-in_ok-assign-in-None-clause-watched c =
     let v = visit-start clauses n steps w.lists.items w.pairs.items w.qhead l place c.list_place-list.result c.index.result.now watcher c.requires.watched c.requires.exist c.requires.lit c.requires.place c.list_place-list.ensures c.index.ensures c.get-watcher.ensures in
     let other = c.other_than-other.result in
     let o = visit-other clauses n steps w.lists.items w.pairs.items w.qhead l place watcher c.index-old.result.now other c.requires.watched v c.index-old.ensures c.other_than-other.ensures in
-    let is : c.get-clause.result.now ≡ get_or clauses watcher.clause [] = sym (get_or_from_slice_get clauses watcher.clause c.get-clause.result.now [] c.get-clause.ensures) in
-    let r = visit-unit (assignment_of t.values.items) clauses watcher.clause c.get-clause.result.now other is v.exists o.among c.in-None.ensures (iff_false c.is_true-2.ensures c.if-is_true-2.false) (iff_false c.is_false.ensures c.if-is_false.false) in
-    let right = reason-right clauses n steps t.values.items t.indices.items t.decisions.items other (watcher.clause + 1) c.requires.state c.requires.exist r in
-    let done = visit-step clauses n steps c.assign.new.self.steps.items w.lists.items w.pairs.items w.qhead l place watcher other (watcher.clause + 1) c.requires.qhead.within c.in_ok-assign-in-None.ensures.steps v o.among right.1 c.requires.watched c.requires.passed in
-    done.0
+    let new = c.settle-in-None.new.trail in
+    let s = assignment_of new.values.items in
+    settled-ok c.settle-in-None.result (SettleSays clauses watcher.clause other s steps new.steps.items) (AreWatched clauses n new.steps.items w) c.settle-in-None.ensures.says
+    (λ x says. (visit-settled clauses n steps new.steps.items s w l place watcher other x c.requires.qhead.within v o.among says c.requires.watched c.requires.passed).0)
 
-pub returns-in_ok-assign-in-None-clause-says : goal.returns-in_ok-assign-in-None-clause-says
-returns-in_ok-assign-in-None-clause-says c =
+pub returns-in-None-clause-adds : goal.returns-in-None-clause-adds
+returns-in-None-clause-adds c =
     let clauses = c.args.clauses.now in
     let t = c.args.trail.now in
     let n = var_count t in
@@ -238,8 +272,26 @@ returns-in_ok-assign-in-None-clause-says c =
     let v = visit-start clauses n steps w.lists.items w.pairs.items w.qhead l place c.list_place-list.result c.index.result.now watcher c.requires.watched c.requires.exist c.requires.lit c.requires.place c.list_place-list.ensures c.index.ensures c.get-watcher.ensures in
     let other = c.other_than-other.result in
     let o = visit-other clauses n steps w.lists.items w.pairs.items w.qhead l place watcher c.index-old.result.now other c.requires.watched v c.index-old.ensures c.other_than-other.ensures in
-    let is : c.get-clause.result.now ≡ get_or clauses watcher.clause [] = sym (get_or_from_slice_get clauses watcher.clause c.get-clause.result.now [] c.get-clause.ensures) in
-    let r = visit-unit (assignment_of t.values.items) clauses watcher.clause c.get-clause.result.now other is v.exists o.among c.in-None.ensures (iff_false c.is_true-2.ensures c.if-is_true-2.false) (iff_false c.is_false.ensures c.if-is_false.false) in
-    let right = reason-right clauses n steps t.values.items t.indices.items t.decisions.items other (watcher.clause + 1) c.requires.state c.requires.exist r in
-    let done = visit-step clauses n steps c.assign.new.self.steps.items w.lists.items w.pairs.items w.qhead l place watcher other (watcher.clause + 1) c.requires.qhead.within c.in_ok-assign-in-None.ensures.steps v o.among right.1 c.requires.watched c.requires.passed in
-    (done.1, refl)
+    let new = c.settle-in-None.new.trail in
+    let s = assignment_of new.values.items in
+    settled-ok c.settle-in-None.result (SettleSays clauses watcher.clause other s steps new.steps.items) (Propagates steps new.steps.items) c.settle-in-None.ensures.says
+    (λ x says. (visit-settled clauses n steps new.steps.items s w l place watcher other x c.requires.qhead.within v o.among says c.requires.watched c.requires.passed).1)
+
+pub returns-in-None-clause-says : goal.returns-in-None-clause-says
+returns-in-None-clause-says c =
+    let clauses = c.args.clauses.now in
+    let t = c.args.trail.now in
+    let n = var_count t in
+    let w = c.args.watches.now in
+    let l = c.args.lit in
+    let place = c.args.place in
+    let watcher = c.get-watcher.result in
+    let steps = t.steps.items in
+    let v = visit-start clauses n steps w.lists.items w.pairs.items w.qhead l place c.list_place-list.result c.index.result.now watcher c.requires.watched c.requires.exist c.requires.lit c.requires.place c.list_place-list.ensures c.index.ensures c.get-watcher.ensures in
+    let other = c.other_than-other.result in
+    let o = visit-other clauses n steps w.lists.items w.pairs.items w.qhead l place watcher c.index-old.result.now other c.requires.watched v c.index-old.ensures c.other_than-other.ensures in
+    let new = c.settle-in-None.new.trail in
+    let s = assignment_of new.values.items in
+    settled-if c.settle-in-None.result (SettleSays clauses watcher.clause other s steps new.steps.items)
+    (VisitSays clauses new.steps.items s l place (length (watchers w.lists.items (list_of l))) w) c.settle-in-None.ensures.says
+    (λ x says. (visit-settled clauses n steps new.steps.items s w l place watcher other x c.requires.qhead.within v o.among says c.requires.watched c.requires.passed).2)
