@@ -8,7 +8,7 @@ use Rattle.denali_run.specs.Right.{Right}
 use Rattle.denali_run.specs.declared.results.Answered.{Answered}
 use Rattle.denali_run.specs.declared.results.Answered.TheVariants.{Scheduled, Nowhere, SpentConflicts, SpentSize, NoWorld}
 use Rattle.schedule_meaning.specs.declared.schedules.Allocation.TheVariants.{Block}
-use Rattle.denali_run.specs.declared.settings.Pick.TheVariants.{First}
+use Rattle.pick_rule.specs.declared.pick.Pick.TheVariants.{First}
 use Rattle.denali_run.specs.declared.settings.Settings.{Settings}
 use Rattle.reports.specs.declared.statuses.Status.{Status}
 use Rattle.reports.specs.declared.statuses.Status.TheVariants as status

@@ -2,7 +2,6 @@ pub mod ClaimedResults
 pub mod GeneratedAnswers
 pub mod GoalOutcomes
 pub mod MatchedGoals
-pub mod Picks
 pub mod Encodings
 pub mod Right
 pub mod TextAnswers

@@ -7,7 +7,7 @@ ghost use Rattle.denali_run.specs.MatchedGoals.{IsSettings};
 ghost use Rattle.denali_run.specs.Right.{Right};
 
 use crate::results::{Answered, Found};
-use crate::settings::{Pick, Settings};
+use crate::settings::Settings;
 use crate::text_solving::solve_input;
 use axiom_library::Library;
 use generated_goals::{
@@ -15,6 +15,7 @@ use generated_goals::{
     generated_inputs_are_well_formed,
 };
 use items::NoMemory;
+use pick_rule::Pick;
 use reports::{Report, Status};
 use schedule_meaning::{Allocation, MOST_CYCLES};
 use std::alloc::Global;

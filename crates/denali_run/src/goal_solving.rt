@@ -11,7 +11,6 @@ use crate::searching::search;
 use crate::settings::Settings;
 use goal_meaning::Input;
 use items::NoMemory;
-use pick_rule::{Picker, Rule};
 use saturation::{
     Rules, SaturateFault, StartFault, axioms_make_rules_true, grown_graphs_are_one,
     grown_graphs_can_be_launched, launched_graphs_stand, rules, saturate, start, to_launch,
@@ -19,12 +18,11 @@ use saturation::{
 use std::alloc::{AllocError, Global};
 
 /// Answers one goal of the input.
-pub fn solve_goal<F: Rule>(
+pub fn solve_goal(
     alloc: Global,
     input: &Input,
     at: u32,
     settings: &Settings,
-    picker: &Picker<F>,
 ) -> Result<Answered, NoMemory>
     requires input { IsInput (input_view input.now) }
     requires at { at < length input.now.goals }
@@ -33,17 +31,16 @@ pub fn solve_goal<F: Rule>(
         → Right (input_view input.now) goal settings.now answered) }
 {
     let rules = rules(alloc, input, settings.library)?;
-    solve_by_rules(alloc, input, &rules, at, settings, picker)
+    solve_by_rules(alloc, input, &rules, at, settings)
 }
 
 /// Answers one goal by the rules of its input, which serve for all goals.
-pub(crate) fn solve_by_rules<F: Rule>(
+pub(crate) fn solve_by_rules(
     alloc: Global,
     input: &Input,
     rules: &Rules,
     at: u32,
     settings: &Settings,
-    picker: &Picker<F>,
 ) -> Result<Answered, NoMemory>
     requires input { IsInput (input_view input.now) }
     requires rules { rules.now ≡ rules_of settings.now.library (input_view input.now) }
@@ -75,5 +72,5 @@ pub(crate) fn solve_by_rules<F: Rule>(
         rounds: saturated.rounds,
         stop: saturated.stop,
     };
-    search(alloc, matched, &input.table, settings, picker)
+    search(alloc, matched, &input.table, settings)
 }

@@ -1,5 +1,5 @@
 // Numbers of cycles in rising order, until they are enough.
-ghost use Rattle.std.specs.Prelude.{◌≡◌, ◌<◌, ◌≤◌, IfOk, length};
+ghost use Rattle.std.specs.Prelude.{◌≡◌, ◌≤◌, IfOk};
 ghost use Rattle.schedule_meaning.specs.Limits.{most_cycles};
 ghost use Rattle.cycle_encoding.specs.CycleFormula.{allocation_in};
 ghost use Rattle.cycle_encoding.specs.Encodings.{IsScope};
@@ -9,7 +9,6 @@ ghost use Rattle.machine_table.specs.Tables.{IsTable};
 ghost use Rattle.order_encoding.specs.WholeFormula.{formula_in};
 ghost use Rattle.denali_run.specs.Encodings.{encoding_in};
 ghost use Rattle.denali_run.specs.MatchedGoals.{IsMatched, IsSettings};
-ghost use Rattle.denali_run.specs.Picks.{PicksPlace};
 ghost use Rattle.denali_run.specs.Right.{Right};
 ghost use Rattle.denali_run.specs.Trials.{IsTrialsEnd, IsTrialsEndIn, IsTrial};
 
@@ -21,7 +20,7 @@ use graph_meaning::LaunchGraph;
 use items::{Items, NoMemory};
 use machine_table::Table;
 use order_encoding::{build_formula, each_encoding_says_fits};
-use pick_rule::{Picker, Rule};
+use pick_rule::Pick;
 use register_assign::{assign, words_of};
 use sat_core::{Verdict, solve};
 use schedule_meaning::{Schedule, fits_in_any_order};
@@ -38,7 +37,7 @@ pub enum Trial {
 }
 
 /// Whether `k` cycles are enough.
-pub(crate) fn try_cycles<F: Rule>(
+pub(crate) fn try_cycles(
     alloc: Global,
     graph: &LaunchGraph,
     facts: &Facts,
@@ -46,7 +45,7 @@ pub(crate) fn try_cycles<F: Rule>(
     scope: &Scope,
     k: u32,
     conflicts: u32,
-    picker: &Picker<F>,
+    pick: Pick,
 ) -> Result<Trial, NoMemory>
     requires cycles { k ≤ most_cycles }
     requires table { IsTable table.now }
@@ -65,7 +64,7 @@ pub(crate) fn try_cycles<F: Rule>(
         Err(EncodeFault::Size { vars, clauses }) => return Ok(Trial::Large { vars, clauses }),
         Err(EncodeFault::Memory) => return Err(AllocError),
     };
-    match solve(alloc, &encoded.cnf, picker, conflicts)? {
+    match solve(alloc, &encoded.cnf, pick, conflicts)? {
         Verdict::Sat(values) => {
             let schedule = read_off(alloc, &encoded.plan, values.as_slice())?;
             Ok(Trial::Fitting(schedule))
@@ -84,34 +83,15 @@ pub struct Reached {
     pub trial: Trial,
 }
 
-/// Tries numbers of cycles in rising order. What the graph and the table say, and what has variables, is found once for
+/// Tries numbers of cycles in rising order. What the graph and the table say, and what has variables, was found once for
 /// all of them.
-fn reach<F: Rule>(
-    alloc: Global,
-    graph: &LaunchGraph,
-    table: &Table,
-    settings: &Settings,
-    picker: &Picker<F>,
-) -> Result<Reached, NoMemory>
-    requires table { IsTable table.now }
-    requires settings { IsSettings settings.now }
-    requires graph { IsLaunchGraph graph.now }
-    ensures { IfOk result (IsTrialsEndIn graph.now table.now settings.now) }
-{
-    let facts = Facts::new(alloc, graph)?;
-    let scope = Scope::of(alloc, settings.encoding(), &facts, table)?;
-    reach_in(alloc, graph, &facts, table, &scope, settings, picker)
-}
-
-/// The same over what was found of the graph and the table.
-fn reach_in<F: Rule>(
+fn reach_in(
     alloc: Global,
     graph: &LaunchGraph,
     facts: &Facts,
     table: &Table,
     scope: &Scope,
     settings: &Settings,
-    picker: &Picker<F>,
 ) -> Result<Reached, NoMemory>
     requires table { IsTable table.now }
     requires settings { IsSettings settings.now }
@@ -131,7 +111,7 @@ fn reach_in<F: Rule>(
             scope,
             k,
             settings.conflicts,
-            picker,
+            settings.pick,
         )?;
         match trial {
             Trial::Refuted(lines) => {
@@ -149,24 +129,6 @@ fn reach_in<F: Rule>(
     }
 }
 
-/// The same, where the solver's decisions are picked by a rule.
-fn reach_by<F: Rule + Drop>(
-    alloc: Global,
-    graph: &LaunchGraph,
-    table: &Table,
-    settings: &Settings,
-    rule: F,
-) -> Result<Reached, NoMemory>
-    requires table { IsTable table.now }
-    requires settings { IsSettings settings.now }
-    requires graph { IsLaunchGraph graph.now }
-    requires rule { F.answers_places rule }
-    ensures { IfOk result (IsTrialsEndIn graph.now table.now settings.now) }
-{
-    let picker = Picker::new(rule);
-    reach(alloc, graph, table, settings, &picker)
-}
-
 /// Where the trial of numbers of cycles in rising order ends for a graph, whatever it stands for. The settings say up to
 /// how many cycles, with how many conflicts for each, and how decisions are picked.
 pub fn fewest_cycles(
@@ -180,27 +142,17 @@ pub fn fewest_cycles(
     requires graph { IsLaunchGraph graph.now }
     ensures reached { IfOk result (IsTrialsEndIn graph.now table.now settings.now) }
 {
-    let pick = settings.pick;
-    reach_by(
-        alloc,
-        graph,
-        table,
-        settings,
-        move |scores: &[u64]|
-            requires { 0 < length scores.now }
-            ensures within { result < length scores.now }
-            ensures picked { PicksPlace pick scores.now result }
-        { pick.place(scores) },
-    )
+    let facts = Facts::new(alloc, graph)?;
+    let scope = Scope::of(alloc, settings.encoding(), &facts, table)?;
+    reach_in(alloc, graph, &facts, table, &scope, settings)
 }
 
 /// The least number of cycles that is enough for a matched graph, or what was found before it.
-pub(crate) fn search<F: Rule>(
+pub(crate) fn search(
     alloc: Global,
     matched: Matched,
     table: &Table,
     settings: &Settings,
-    picker: &Picker<F>,
 ) -> Result<Answered, NoMemory>
     requires table { IsTable table.now }
     requires settings { IsSettings settings.now }
@@ -208,7 +160,7 @@ pub(crate) fn search<F: Rule>(
     ensures { IfOk result (λ answered. (input : InputTree) (goal : GoalTree) → input.table ≡ table.now
         → IsMatched input goal settings.now matched → Right input goal settings.now answered) }
 {
-    let reached = reach(alloc, &matched.graph, table, settings, picker)?;
+    let reached = fewest_cycles(alloc, &matched.graph, table, settings)?;
     let k = reached.k;
     let refutation = reached.below;
     let trial = reached.trial;

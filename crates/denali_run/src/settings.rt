@@ -1,36 +1,11 @@
 // What a solution may take.
-ghost use Rattle.std.specs.Prelude.{◌≡◌, ◌<◌, length};
+ghost use Rattle.std.specs.Prelude.{◌≡◌};
 ghost use Rattle.denali_run.specs.Encodings as encodings;
-ghost use Rattle.denali_run.specs.Picks.{PicksPlace};
 
 use axiom_library::Library;
 use cycle_encoding::Encoding;
-use pick_rule::{busiest_place, first_place, last_place};
+use pick_rule::Pick;
 use schedule_meaning::Allocation;
-
-/// How the solver's next decision is picked among the free variables: `First` is the one with the least number, `Last`
-/// the one with the greatest, and `Busy` the first of those that stand in the most lemmas so far.
-#[derive(Clone, Copy, PartialEq, Eq)]
-pub enum Pick {
-    First,
-    Last,
-    Busy,
-}
-
-impl Pick {
-    /// The place of the decision among the free variables' scores, which are in the order of the variables' numbers.
-    pub fn place(self, scores: &[u64]) -> usize
-        requires { 0 < length scores.now }
-        ensures within { result < length scores.now }
-        ensures picked { PicksPlace self scores.now result }
-    {
-        match self {
-            Pick::First => first_place(scores),
-            Pick::Last => last_place(scores),
-            Pick::Busy => busiest_place(scores),
-        }
-    }
-}
 
 /// The limits of the work on a goal: the most rounds, 0 to 16; the most rows of its graph, 1 to 4096, where a round
 /// that might pass them isn't begun; the most cycles, 0 to 24; the most conflicts of the solver for each number of

@@ -5,7 +5,6 @@ ghost use Rattle.goal_meaning.specs.WellFormed.{IsInput};
 ghost use Rattle.goal_reader.specs.Grammar.{IsFirstTextFault};
 ghost use Rattle.reports.specs.Errors.{IsErrorBy};
 ghost use Rattle.denali_run.specs.MatchedGoals.{IsSettings};
-ghost use Rattle.denali_run.specs.Picks.{PicksPlace};
 ghost use Rattle.denali_run.specs.Right.{AreRightResults};
 ghost use Rattle.denali_run.specs.TextAnswers.{Answers};
 
@@ -16,34 +15,11 @@ use crate::results::Answered;
 use crate::settings::Settings;
 use goal_reader::{Input, read, read_inputs_are_well_formed, read_inputs_have_few_operators};
 use items::NoMemory;
-use pick_rule::{Picker, Rule};
 use reports::{Report, TextError};
 use saturation::rules;
 use std::alloc::Global;
 
-/// Each goal's result, in the goals' order, where the solver's decisions are picked by a rule.
-fn solve_goals<F: Rule + Drop>(
-    alloc: Global,
-    input: &Input,
-    settings: &Settings,
-    rule: F,
-) -> Result<Vec<Answered>, NoMemory>
-    requires input { IsInput (input_view input.now) }
-    requires settings { IsSettings settings.now }
-    requires rule { F.answers_places rule }
-    ensures right { IfOk result (λ results. AreRightResults (input_view input.now)
-        settings.now results.items) }
-{
-    let picker = Picker::new(rule);
-    let rules = rules(alloc, input, settings.library)?;
-    let mut results = Vec::new(alloc);
-    for at in 0..input.goals.len() {
-        results.push(solve_by_rules(alloc, input, &rules, at as u32, settings, &picker)?)?;
-    }
-    Ok(results)
-}
-
-/// Each goal's result, in the goals' order, where the settings say how decisions are picked.
+/// Each goal's result, in the goals' order.
 pub fn solve_input(
     alloc: Global,
     input: &Input,
@@ -54,17 +30,12 @@ pub fn solve_input(
     ensures right { IfOk result (λ results. AreRightResults (input_view input.now)
         settings.now results.items) }
 {
-    let pick = settings.pick;
-    solve_goals(
-        alloc,
-        input,
-        settings,
-        move |scores: &[u64]|
-            requires { 0 < length scores.now }
-            ensures within { result < length scores.now }
-            ensures picked { PicksPlace pick scores.now result }
-        { pick.place(scores) },
-    )
+    let rules = rules(alloc, input, settings.library)?;
+    let mut results = Vec::new(alloc);
+    for at in 0..input.goals.len() {
+        results.push(solve_by_rules(alloc, input, &rules, at as u32, settings)?)?;
+    }
+    Ok(results)
 }
 
 /// The answer to a text of goals: the result of each goal, in their order.

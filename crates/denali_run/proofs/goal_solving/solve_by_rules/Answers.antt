@@ -18,7 +18,7 @@ use Rattle.denali_run.proofs.WorkedGoals.{RulesAreTrue, at_start, few_rows, for_
 use Rattle.denali_run.proofs.goal_solving.solve_by_rules.Goals as goal
 
 pub start-requires : goal.start-requires
-start-requires g c =
+start-requires c =
     let goals = c.args.input.now.goals in
     let goal = c.index-as_slice-at.result in
     record {
@@ -30,7 +30,7 @@ start-requires g c =
     }
 
 pub returns-in-Err-NoWorld : goal.returns-in-Err-NoWorld
-returns-in-Err-NoWorld g c =
+returns-in-Err-NoWorld c =
     let input = input_view c.args.input.now in
     let goals = c.args.input.now.goals in
     let goal = c.index-as_slice-at.result in
@@ -52,7 +52,7 @@ returns-in-Err-NoWorld g c =
     }
 
 pub returns-in-Err-NoWorld-saturate : goal.returns-in-Err-NoWorld-saturate
-returns-in-Err-NoWorld-saturate g c =
+returns-in-Err-NoWorld-saturate c =
     let input = input_view c.args.input.now in
     let goals = c.args.input.now.goals in
     let goal = c.index-as_slice-at.result in
@@ -79,7 +79,7 @@ returns-in-Err-NoWorld-saturate g c =
     }
 
 pub to_launch-requires : goal.to_launch-requires
-to_launch-requires g c =
+to_launch-requires c =
     let input = input_view c.args.input.now in
     let goals = c.args.input.now.goals in
     let goal = c.index-as_slice-at.result in
@@ -100,7 +100,7 @@ to_launch-requires g c =
     }
 
 pub returns : goal.returns
-returns g c =
+returns c =
     let input = input_view c.args.input.now in
     let goals = c.args.input.now.goals in
     let goal = c.index-as_slice-at.result in

@@ -7,18 +7,18 @@ use Rattle.denali_run.specs.Encodings.{encoding_in}
 use Rattle.denali_run.proofs.searching.reach_in.Goals as goal
 
 pub loop-below-init : goal.loop-below-init
-loop-below-init g c = (
+loop-below-init c = (
   omega arith,
   least_at_first (formula_in c.args.scope.now c.args.facts.now c.args.table.now) c.args.graph.now c.args.table.now
       c.args.settings.now.allocation c.args.settings.now.conflicts,
 )
 
 pub try_cycles-requires-clause-scope : goal.try_cycles-requires-clause-scope
-try_cycles-requires-clause-scope g c =
+try_cycles-requires-clause-scope c =
     own_scope (encoding_in c.args.settings.now) c.args.facts.now c.args.table.now c.args.scope.now c.requires.scope
 
 pub returns-then-k-settings : goal.returns-then-k-settings
-returns-then-k-settings g c =
+returns-then-k-settings c =
     let f = formula_in c.args.scope.now c.args.facts.now c.args.table.now in
     let s = c.args.settings.now in
     let own = own_allocation s c.args.facts.now c.args.table.now c.args.scope.now c.requires.scope in
@@ -32,7 +32,7 @@ returns-then-k-settings g c =
     }
 
 pub loop-below-preserved : goal.loop-below-preserved
-loop-below-preserved g c =
+loop-below-preserved c =
     let m = c.args.graph.now in
     let table = c.args.table.now in
     let f = formula_in c.args.scope.now c.args.facts.now table in

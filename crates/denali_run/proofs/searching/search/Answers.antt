@@ -6,21 +6,21 @@ use Rattle.denali_run.proofs.RisingCycles.{found_right, large_right, least_after
 use Rattle.denali_run.proofs.searching.search.Goals as goal
 
 pub assign-requires-clause-fits : goal.assign-requires-clause-fits
-assign-requires-clause-fits g c =
-    let by = c.in_ok-reached.ensures in
+assign-requires-clause-fits c =
+    let by = c.in_ok-reached.ensures.reached in
     (subst (IsTrial by.clauses_for c.args.matched.graph c.args.table.now c.args.settings.now.allocation c.in_ok-reached.reached.k
     c.args.settings.now.conflicts)
     c.in-Fitting.is by.holds.trial).1
 
 pub assign-requires-clause-few : goal.assign-requires-clause-few
-assign-requires-clause-few g c =
-    (let low = c.in_ok-reached.ensures.holds.low in
+assign-requires-clause-few c =
+    (let low = c.in_ok-reached.ensures.reached.holds.low in
     let most = c.requires.settings.cycles in
     omega (arith, low, most))
 
 pub returns-in_ok-words-in-Fitting : goal.returns-in_ok-words-in-Fitting
-returns-in_ok-words-in-Fitting g c = λ input goal is matched.
-    let by = c.in_ok-reached.ensures in
+returns-in_ok-words-in-Fitting c = λ input goal is matched.
+    let by = c.in_ok-reached.ensures.reached in
     found_right input goal c.args.settings.now c.args.table.now
     (record {
       matched = c.args.matched;
@@ -41,8 +41,8 @@ returns-in_ok-words-in-Fitting g c = λ input goal is matched.
     c.in_ok-listing-in-Fitting.ensures.keeps by.holds.least
 
 pub returns-in-Refuted : goal.returns-in-Refuted
-returns-in-Refuted g c = λ input goal is matched.
-    let by = c.in_ok-reached.ensures in
+returns-in-Refuted c = λ input goal is matched.
+    let by = c.in_ok-reached.ensures.reached in
     let k = c.in_ok-reached.reached.k in
     let lines = c.in-Refuted.refutation in
     missing_right input goal c.args.settings.now c.args.table.now
@@ -55,8 +55,8 @@ returns-in-Refuted g c = λ input goal is matched.
     by.holds.trial))
 
 pub returns-in-Spent : goal.returns-in-Spent
-returns-in-Spent g c = λ input goal is matched.
-    let by = c.in_ok-reached.ensures in
+returns-in-Spent c = λ input goal is matched.
+    let by = c.in_ok-reached.ensures.reached in
     spent_right input goal c.args.settings.now c.args.table.now
     (record {
       matched = c.args.matched;
@@ -71,8 +71,8 @@ returns-in-Spent g c = λ input goal is matched.
     by.holds.least
 
 pub returns-in-Large : goal.returns-in-Large
-returns-in-Large g c = λ input goal is matched.
-    let by = c.in_ok-reached.ensures in
+returns-in-Large c = λ input goal is matched.
+    let by = c.in_ok-reached.ensures.reached in
     large_right input goal c.args.settings.now c.args.table.now
     (record {
       matched = c.args.matched;

@@ -16,10 +16,10 @@ use Rattle.denali_run.proofs.searching.try_cycles.Goals as goal
 
 -- the formula is that of the graph
 pub build_formula-requires-clause-graph : goal.build_formula-requires-clause-graph
-build_formula-requires-clause-graph g c = subst IsLaunchGraph (sym c.requires.facts) c.requires.graph
+build_formula-requires-clause-graph c = subst IsLaunchGraph (sym c.requires.facts) c.requires.graph
 
 pub returns-in-Sat : goal.returns-in-Sat
-returns-in-Sat g c =
+returns-in-Sat c =
     let graph = c.args.facts.now in
     let table = c.args.table.now in
     let k = c.args.k in
@@ -44,7 +44,7 @@ returns-in-Sat g c =
     )
 
 pub returns-in-Refuted : goal.returns-in-Refuted
-returns-in-Refuted g c =
+returns-in-Refuted c =
     let graph = c.args.facts.now in
     let table = c.args.table.now in
     let k = c.args.k in

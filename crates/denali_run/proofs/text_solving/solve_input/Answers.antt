@@ -3,10 +3,10 @@ use Rattle.std.specs.List.{AllZip}
 use Rattle.goal_meaning.specs.Views.{goal_view, input_view}
 use Rattle.denali_run.specs.Right.{Right}
 use Rattle.denali_run.proofs.AnsweredGoals.{below_goals, one_more_result}
-use Rattle.denali_run.proofs.text_solving.solve_goals.Goals as goal
+use Rattle.denali_run.proofs.text_solving.solve_input.Goals as goal
 
 pub loop-at-preserved : goal.loop-at-preserved
-loop-at-preserved g c =
+loop-at-preserved c =
     subst (λ rs. AllZip (λ goal answered. Right (input_view c.args.input.now) goal c.args.settings.now answered)
     (take (c.loop-at.at + 1) (map goal_view c.args.input.now.goals)) rs) (sym c.in_ok-push.ensures.items)
     (one_more_result (λ goal answered. Right (input_view c.args.input.now) goal c.args.settings.now answered)
