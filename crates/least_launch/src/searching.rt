@@ -20,7 +20,7 @@ use denali_run::encoding_for;
 use graph_meaning::LaunchGraph;
 use items::NoMemory;
 use machine_table::Table;
-use pick_rule::{Picker, Rule};
+use pick_rule::Pick;
 use register_assign::assign;
 use sat_core::{Verdict, solve_from};
 use schedule_meaning::{
@@ -51,7 +51,7 @@ fn scores_of(alloc: Global, encoded: &Encoded, schedule: &Schedule) -> Result<Ve
 }
 
 /// Looks for a schedule with at most `n` launches, one fewer than this one has, from which the search starts.
-fn try_fewer<F: Rule>(
+fn try_fewer(
     alloc: Global,
     facts: &Facts,
     table: &Table,
@@ -60,7 +60,7 @@ fn try_fewer<F: Rule>(
     n: u32,
     schedule: &Schedule,
     conflicts: u32,
-    picker: &Picker<F>,
+    pick: Pick,
 ) -> Result<Step, NoMemory>
     requires cycles { k ≤ most_cycles }
     requires launches { n ≤ most_launches }
@@ -81,7 +81,7 @@ fn try_fewer<F: Rule>(
         Err(EncodeFault::Memory) => return Err(AllocError),
     };
     let scores = scores_of(alloc, &encoded, schedule)?;
-    match solve_from(alloc, &encoded.cnf, picker, conflicts, &scores)? {
+    match solve_from(alloc, &encoded.cnf, pick, conflicts, &scores)? {
         Verdict::Sat(values) => {
             let fewer = read_off(alloc, &encoded.plan, values.as_slice())?;
             Ok(Step::Fewer(fewer))
@@ -93,7 +93,7 @@ fn try_fewer<F: Rule>(
 
 /// From a schedule that fits, the last one of those that are found with fewer and fewer launches, and why there is no
 /// other.
-fn lessen<F: Rule>(
+fn lessen(
     alloc: Global,
     facts: &Facts,
     table: &Table,
@@ -101,7 +101,7 @@ fn lessen<F: Rule>(
     k: u32,
     given: Schedule,
     conflicts: u32,
-    picker: &Picker<F>,
+    pick: Pick,
 ) -> Result<(Schedule, Proof), NoMemory>
     requires cycles { k ≤ most_cycles }
     requires table { IsTable table.now }
@@ -128,7 +128,7 @@ fn lessen<F: Rule>(
             count - 1,
             &schedule,
             conflicts,
-            picker,
+            pick,
         )? {
             Step::Fewer(fewer) => schedule = fewer,
             Step::Ended(proof) => return Ok((schedule, proof)),
@@ -138,8 +138,8 @@ fn lessen<F: Rule>(
 
 /// Looks for schedules that fit in as many cycles as the given one with fewer launches, one after another, until the
 /// clauses for one launch fewer are refuted or too large, or the budget of conflicts for them is spent. Each search
-/// starts from the schedule in hand: its launches have the score 1 for the picker at first, and all other variables 0.
-pub fn least<F: Rule>(
+/// starts from the schedule in hand: its launches have the score 1 at first, and all other variables 0.
+pub fn least(
     alloc: Global,
     graph: &LaunchGraph,
     table: &Table,
@@ -147,7 +147,7 @@ pub fn least<F: Rule>(
     k: u32,
     schedule: Schedule,
     conflicts: u32,
-    picker: &Picker<F>,
+    pick: Pick,
 ) -> Result<Least, NoMemory>
     requires cycles { k ≤ most_cycles }
     requires table { IsTable table.now }
@@ -160,7 +160,7 @@ pub fn least<F: Rule>(
 {
     let facts = Facts::new(alloc, graph)?;
     let scope = Scope::of(alloc, encoding_for(allocation), &facts, table)?;
-    let (schedule, proof) = lessen(alloc, &facts, table, &scope, k, schedule, conflicts, picker)?;
+    let (schedule, proof) = lessen(alloc, &facts, table, &scope, k, schedule, conflicts, pick)?;
     let listing = assign(alloc, graph, table, allocation, k, &schedule)?;
     Ok(Least {
         schedule,

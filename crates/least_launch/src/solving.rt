@@ -2,7 +2,6 @@
 ghost use Rattle.std.specs.Prelude.{◌≡◌, ◌<◌, ◌≤◌, ◌^◌, IfOk, IfErr, Some, length, slice_get};
 ghost use Rattle.std.specs.List.{AllZip};
 ghost use Rattle.denali_run.specs.MatchedGoals.{IsSettings};
-ghost use Rattle.denali_run.specs.Picks.{PicksPlace};
 ghost use Rattle.denali_run.specs.Right.{AreRightResults, Right};
 ghost use Rattle.reports.specs.Errors.{IsErrorBy};
 ghost use Rattle.goal_meaning.specs.Views.{GoalTree, input_view};
@@ -23,7 +22,7 @@ use denali_run::{Answered, Found, Settings, solve_goal};
 use goal_reader::{Input, read, read_inputs_are_well_formed, read_inputs_have_few_operators};
 use items::{Items, NoMemory};
 use machine_table::Table;
-use pick_rule::{Picker, Rule};
+use pick_rule::Pick;
 use register_assign::words_of;
 use reports::{Report, TextError};
 use schedule_meaning::{Allocation, fitting_schedules_are_small};
@@ -51,13 +50,13 @@ fn said_by(alloc: Global, launches: u32, proof: Proof) -> Tail
 }
 
 /// The result with the schedule that has the fewest launches in place of its own, and what is said of that.
-fn lessened<F: Rule>(
+fn lessened(
     alloc: Global,
     table: &Table,
     allocation: Allocation,
     conflicts: u32,
     found: Found,
-    picker: &Picker<F>,
+    pick: Pick,
 ) -> Result<(Found, Tail), NoMemory>
     requires table { IsTable table.now }
     requires conflicts { (1 ≤ conflicts) × (conflicts ≤ 1000000) }
@@ -75,7 +74,7 @@ fn lessened<F: Rule>(
         found.k,
         schedule,
         conflicts,
-        picker,
+        pick,
     )?;
     let words = words_of(alloc, fewest.listing.items.as_slice())?;
     let launches = fewest.schedule.launches.len() as u32;
@@ -91,13 +90,13 @@ fn lessened<F: Rule>(
 }
 
 /// The result with the fewest launches, if it has a schedule, and what is said of that.
-fn with_fewest<F: Rule>(
+fn with_fewest(
     alloc: Global,
     table: &Table,
     allocation: Allocation,
     conflicts: u32,
     answered: Answered,
-    picker: &Picker<F>,
+    pick: Pick,
 ) -> Result<(Answered, Option<Tail>), NoMemory>
     requires table { IsTable table.now }
     requires conflicts { (1 ≤ conflicts) × (conflicts ≤ 1000000) }
@@ -106,7 +105,7 @@ fn with_fewest<F: Rule>(
 {
     match answered.scheduled() {
         Ok(found) => {
-            let (found, tail) = lessened(alloc, table, allocation, conflicts, found, picker)?;
+            let (found, tail) = lessened(alloc, table, allocation, conflicts, found, pick)?;
             Ok((Answered::Scheduled(found), Some(tail)))
         }
         Err(other) => Ok((other, None)),
@@ -114,12 +113,11 @@ fn with_fewest<F: Rule>(
 }
 
 /// Answers one goal of the input with the fewest launches, and what is said of its schedule.
-fn solve_fewest<F: Rule>(
+fn solve_fewest(
     alloc: Global,
     input: &Input,
     at: u32,
     settings: &Settings,
-    picker: &Picker<F>,
 ) -> Result<(Answered, Option<Tail>), NoMemory>
     requires input { IsInput (input_view input.now) }
     requires at { at < length input.now.goals }
@@ -128,14 +126,14 @@ fn solve_fewest<F: Rule>(
         → Right (input_view input.now) goal settings.now p.0
         × IsTailOf input.now.table settings.now.allocation settings.now.conflicts p.0 p.1) }
 {
-    let answered = solve_goal(alloc, input, at, settings, picker)?;
+    let answered = solve_goal(alloc, input, at, settings)?;
     with_fewest(
         alloc,
         &input.table,
         settings.allocation,
         settings.conflicts,
         answered,
-        picker,
+        settings.pick,
     )
 }
 
@@ -146,32 +144,7 @@ pub struct LeastResults {
     pub said: Vec<Option<Tail>>,
 }
 
-/// Each goal's result with the fewest launches, in the goals' order, where the solver's decisions are picked by a rule.
-fn solve_goals<F: Rule + Drop>(
-    alloc: Global,
-    input: &Input,
-    settings: &Settings,
-    rule: F,
-) -> Result<LeastResults, NoMemory>
-    requires input { IsInput (input_view input.now) }
-    requires settings { IsSettings settings.now }
-    requires rule { F.answers_places rule }
-    ensures right { IfOk result (λ s. AreRightResults (input_view input.now) settings.now s.results.items) }
-    ensures said { IfOk result (λ s. AllZip (IsTailOf input.now.table settings.now.allocation settings.now.conflicts)
-        s.results.items s.said.items) }
-{
-    let picker = Picker::new(rule);
-    let mut results = Vec::new(alloc);
-    let mut said = Vec::new(alloc);
-    for at in 0..input.goals.len() {
-        let (answered, tail) = solve_fewest(alloc, input, at as u32, settings, &picker)?;
-        results.push(answered)?;
-        said.push(tail)?;
-    }
-    Ok(LeastResults { results, said })
-}
-
-/// Each goal's result with the fewest launches, where the settings say how decisions are picked.
+/// Each goal's result with the fewest launches, in the goals' order.
 pub fn solve_least_input(
     alloc: Global,
     input: &Input,
@@ -183,17 +156,14 @@ pub fn solve_least_input(
     ensures said { IfOk result (λ s. AllZip (IsTailOf input.now.table settings.now.allocation settings.now.conflicts)
         s.results.items s.said.items) }
 {
-    let pick = settings.pick;
-    solve_goals(
-        alloc,
-        input,
-        settings,
-        move |scores: &[u64]|
-            requires { 0 < length scores.now }
-            ensures within { result < length scores.now }
-            ensures picked { PicksPlace pick scores.now result }
-        { pick.place(scores) },
-    )
+    let mut results = Vec::new(alloc);
+    let mut said = Vec::new(alloc);
+    for at in 0..input.goals.len() {
+        let (answered, tail) = solve_fewest(alloc, input, at as u32, settings)?;
+        results.push(answered)?;
+        said.push(tail)?;
+    }
+    Ok(LeastResults { results, said })
 }
 
 /// The answer to a text of goals as `solve` gives it, with schedules of the fewest launches; and behind it, of each of

@@ -7,12 +7,12 @@ use Rattle.least_launch.proofs.Allocated.{kept_so, scope_by_own}
 use Rattle.least_launch.proofs.searching.least.Goals as goal
 
 pub lessen-requires-clause-scope : goal.lessen-requires-clause-scope
-lessen-requires-clause-scope g c =
+lessen-requires-clause-scope c =
     scope_by_own c.args.allocation c.encoding_for.result c.in_ok-facts.facts c.args.table.now c.in_ok-scope.scope
     c.encoding_for.ensures c.in_ok-scope.ensures
 
 pub lessen-requires-clause-fits : goal.lessen-requires-clause-fits
-lessen-requires-clause-fits g c =
+lessen-requires-clause-fits c =
     let kept = kept_so c.args.allocation c.encoding_for.result c.in_ok-facts.facts c.args.table.now c.in_ok-scope.scope
     c.encoding_for.ensures c.in_ok-scope.ensures in
     subst (λ (a : Allocation). Fits c.in_ok-facts.facts c.args.table.now a c.args.k c.args.schedule.launches) (sym kept)
@@ -20,7 +20,7 @@ lessen-requires-clause-fits g c =
     (sym c.in_ok-facts.ensures) c.requires.fits)
 
 pub assign-requires-clause-fits : goal.assign-requires-clause-fits
-assign-requires-clause-fits g c =
+assign-requires-clause-fits c =
     let kept = kept_so c.args.allocation c.encoding_for.result c.in_ok-facts.facts c.args.table.now c.in_ok-scope.scope
     c.encoding_for.ensures c.in_ok-scope.ensures in
     let end = subst (λ (a : Allocation). IsStepsEnd c.in_ok-facts.facts c.args.table.now a c.args.k c.args.conflicts
@@ -29,7 +29,7 @@ assign-requires-clause-fits g c =
     c.args.schedule.launches c.in_ok-schedule.schedule c.in_ok-schedule.proof) c.in_ok-facts.ensures end).fits
 
 pub returns-clause-fewest : goal.returns-clause-fewest
-returns-clause-fewest g c =
+returns-clause-fewest c =
     let kept = kept_so c.args.allocation c.encoding_for.result c.in_ok-facts.facts c.args.table.now c.in_ok-scope.scope
     c.encoding_for.ensures c.in_ok-scope.ensures in
     let by_facts = subst (λ (a : Allocation). IsStepsEnd c.in_ok-facts.facts c.args.table.now a c.args.k

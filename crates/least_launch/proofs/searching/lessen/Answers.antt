@@ -5,7 +5,7 @@ use Rattle.least_launch.proofs.Searched.{proof_at}
 use Rattle.least_launch.proofs.searching.lessen.Goals as goal
 
 pub overflow_cast-count : goal.overflow_cast-count
-overflow_cast-count g c =
+overflow_cast-count c =
     let few = c.fitting_schedules_are_small.ensures.few c.args.facts.now c.args.table.now
     (allocation_in c.args.scope.now) c.args.k c.loop-alloc.schedule.launches
     c.requires.table c.loop-alloc.invariant.fits in
@@ -14,14 +14,14 @@ overflow_cast-count g c =
     omega (arith, few, cycles, size)
 
 pub returns-then-count-eq0 : goal.returns-then-count-eq0
-returns-then-count-eq0 g c = record {
+returns-then-count-eq0 c = record {
   fits = c.loop-alloc.invariant.fits;
   no_more = c.loop-alloc.invariant.no_more;
   proof_is = (let zero = c.if-count-eq0.true in let size = c.len-count.ensures in omega (arith, zero, size));
 }
 
 pub try_fewer-requires-clause-launches : goal.try_fewer-requires-clause-launches
-try_fewer-requires-clause-launches g c =
+try_fewer-requires-clause-launches c =
     let few = c.fitting_schedules_are_small.ensures.few c.args.facts.now c.args.table.now
     (allocation_in c.args.scope.now) c.args.k c.loop-alloc.schedule.launches
     c.requires.table c.loop-alloc.invariant.fits in
@@ -30,7 +30,7 @@ try_fewer-requires-clause-launches g c =
     omega (arith, few, cycles, size)
 
 pub loop-alloc-preserved : goal.loop-alloc-preserved
-loop-alloc-preserved g c =
+loop-alloc-preserved c =
     let step = subst (IsStep c.args.facts.now c.args.table.now (allocation_in c.args.scope.now) c.args.k
     c.args.conflicts (c.len-count.result - 1)) c.in-Fewer.is c.in_ok-fewer.ensures in
     let few = step.1 in
@@ -39,7 +39,7 @@ loop-alloc-preserved g c =
     record { fits = step.0; no_more = omega (arith, few, before, size) }
 
 pub loop-alloc-smaller : goal.loop-alloc-smaller
-loop-alloc-smaller g c =
+loop-alloc-smaller c =
     let step = subst (IsStep c.args.facts.now c.args.table.now (allocation_in c.args.scope.now) c.args.k
     c.args.conflicts (c.len-count.result - 1)) c.in-Fewer.is c.in_ok-fewer.ensures in
     let few = step.1 in
@@ -48,7 +48,7 @@ loop-alloc-smaller g c =
     omega (arith, few, some, size)
 
 pub returns-in-Ended : goal.returns-in-Ended
-returns-in-Ended g c =
+returns-in-Ended c =
     let some = c.if-count-eq0.false in
     let size = c.len-count.ensures in
     record {

@@ -15,7 +15,7 @@ use Rattle.least_launch.proofs.Searched.{fewer_step, large_step, none_fewer, ref
 use Rattle.least_launch.proofs.searching.try_fewer.Goals as goal
 
 pub returns-in-Err-Size : goal.returns-in-Err-Size
-returns-in-Err-Size g c =
+returns-in-Err-Size c =
     let fault = c.in-Err-Size in
     renamed (IsStep c.args.facts.now c.args.table.now (allocation_in c.args.scope.now) c.args.k c.args.conflicts c.args.n)
     _ _ _ _ fault.vars-is fault.clauses-is
@@ -25,7 +25,7 @@ returns-in-Err-Size g c =
     fault.ensures.size) (search rules) (search rules))
 
 pub returns-in-Sat : goal.returns-in-Sat
-returns-in-Sat g c =
+returns-in-Sat c =
     let graph = c.args.facts.now in
     let table = c.args.table.now in
     let k = c.args.k in
@@ -51,7 +51,7 @@ returns-in-Sat g c =
     (λ ls ms p fit. c.fits_in_any_order.ensures graph table a k ls ms p fit) shows.0 shows.1
 
 pub returns-in-Refuted : goal.returns-in-Refuted
-returns-in-Refuted g c =
+returns-in-Refuted c =
     let graph = c.args.facts.now in
     let table = c.args.table.now in
     let k = c.args.k in
@@ -75,7 +75,7 @@ returns-in-Refuted g c =
     (v.0, v.1)))
 
 pub returns : goal.returns
-returns g c =
+returns c =
     let spent : IsSpentFormula c.in-Ok.encoded.cnf c.args.conflicts c.in-Spent.lines.lines =
     subst (λ v. IfSpent v (IsSpentFormula c.in-Ok.encoded.cnf c.args.conflicts)) c.in-Spent.is
     c.in_ok-values.ensures.spent in

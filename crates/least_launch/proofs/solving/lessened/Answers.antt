@@ -7,10 +7,10 @@ use Rattle.least_launch.specs.LeastAnswers.{said_by}
 use Rattle.least_launch.proofs.solving.lessened.Goals as goal
 
 pub words_of-requires : goal.words_of-requires
-words_of-requires g c = subst (λ (xs : List Item). HaveWords xs) (sym c.as_slice.ensures) c.in_ok-fewest.ensures.words
+words_of-requires c = subst (λ (xs : List Item). HaveWords xs) (sym c.as_slice.ensures) c.in_ok-fewest.ensures.words
 
 pub overflow_cast-launches : goal.overflow_cast-launches
-overflow_cast-launches g c =
+overflow_cast-launches c =
     let f = c.args.found in
     let few = c.fitting_schedules_are_small.ensures.few f.matched.graph c.args.table.now c.args.allocation f.k
     c.in_ok-fewest.fewest.schedule.launches c.requires.table c.in_ok-fewest.ensures.fewest.fits in
@@ -19,7 +19,7 @@ overflow_cast-launches g c =
     omega (arith, few, cycles, size)
 
 pub returns : goal.returns
-returns g c =
+returns c =
     let fewest = c.in_ok-fewest.fewest in
     let promised = c.in_ok-fewest.ensures.fewest in
     let decode = subst (λ (xs : List Item). AreWordsOf xs c.in_ok-words.words.items) c.as_slice.ensures

@@ -6,7 +6,7 @@ use Rattle.least_launch.proofs.Solved.{goal_at, may_lessen, with_right}
 use Rattle.least_launch.proofs.solving.solve_fewest.Goals as goal
 
 pub with_fewest-requires-clause-can : goal.with_fewest-requires-clause-can
-with_fewest-requires-clause-can g c =
+with_fewest-requires-clause-can c =
     let input = input_view c.args.input.now in
     let one = goal_at (map goal_view c.args.input.now.goals) c.args.at
     (below_goals c.args.input.now.goals c.args.at c.requires.at) in
@@ -14,7 +14,7 @@ with_fewest-requires-clause-can g c =
     (c.in_ok-answered.ensures.right one.0 one.1)
 
 pub returns : goal.returns
-returns g c =
+returns c =
     if_ok _ _ c.with_fewest.result
     (λ p is goal at. with_right (input_view c.args.input.now) goal c.args.settings.now c.in_ok-answered.answered p.0 p.1
     (c.in_ok-answered.ensures.right goal at) is)

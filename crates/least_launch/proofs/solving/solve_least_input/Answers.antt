@@ -7,10 +7,10 @@ use Rattle.denali_run.proofs.AnsweredGoals.{below_goals, one_more_result}
 use Rattle.least_launch.specs.LeastAnswers.{IsTailOf}
 use Rattle.least_launch.specs.declared.tails.Tail.{Tail}
 use Rattle.least_launch.proofs.Solved.{goal_at, said_more}
-use Rattle.least_launch.proofs.solving.solve_goals.Goals as goal
+use Rattle.least_launch.proofs.solving.solve_least_input.Goals as goal
 
 pub loop-at-preserved : goal.loop-at-preserved
-loop-at-preserved g c =
+loop-at-preserved c =
     let input = input_view c.args.input.now in
     let goals = map goal_view c.args.input.now.goals in
     let lt = below_goals c.args.input.now.goals c.loop-at.at
