@@ -63,7 +63,7 @@ pub fn count_cycles(
         nodes: 1,
         cycles,
         conflicts,
-        pick: Pick::First,
+        pick: Pick::Activity,
         library: Library::none(),
         allocation: Allocation::Live,
     };
