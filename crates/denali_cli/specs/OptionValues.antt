@@ -11,8 +11,8 @@ use Rattle.axiom_library.specs.declared.libraries.Library.{Library}
 use Rattle.text_core.specs.Limits.{most_goals}
 use Rattle.schedule_meaning.specs.Limits.{most_cycles}
 use Rattle.schedule_meaning.specs.declared.schedules.Allocation.TheVariants.{Block, Live}
-use Rattle.denali_run.specs.declared.settings.Pick.{Pick}
-use Rattle.denali_run.specs.declared.settings.Pick.TheVariants.{First, Last, Busy}
+use Rattle.pick_rule.specs.declared.pick.Pick.{Pick}
+use Rattle.pick_rule.specs.declared.pick.Pick.TheVariants.{First, Last, Busy, Activity}
 use Rattle.denali_run.specs.declared.settings.Settings.{Settings}
 use Rattle.denali_cli.specs.declared.options.Options.{Options}
 
@@ -41,6 +41,7 @@ pick_value word =
     if bytes_eq word (codes "first") then Some First
     else if bytes_eq word (codes "last") then Some Last
     else if bytes_eq word (codes "busy") then Some Busy
+    else if bytes_eq word (codes "activity") then Some Activity
     else None
 
 -- the parts of a word between its commas

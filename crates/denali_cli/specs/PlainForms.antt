@@ -7,6 +7,7 @@ use Rattle.std.specs.Str.{bytes_eq}
 use Rattle.axiom_library.specs.Libraries.{all_but_halves, no_library}
 use Rattle.axiom_library.specs.declared.libraries.Library.{Library}
 use Rattle.denali_run.specs.declared.settings.Settings.{Settings}
+use Rattle.pick_rule.specs.declared.pick.Pick.TheVariants.{Activity}
 use Rattle.denali_cli.specs.Commands.{Command, Solve, SolveLeast, Proc, Check, CheckLeast, Trim, Verify, Run, Gen, Cnf, Lift, Improve, ImproveLeast, Cycles}
 use Rattle.denali_cli.specs.declared.options.Options.{Options}
 use Rattle.denali_cli.specs.OptionValues.{rounds_value, nodes_value, cycles_value, conflicts_value, pick_value, library_value, no_options, settings_of, has_rounds_alone, default_rounds, default_nodes, size_value, default_size, goal_number_value, default_goal, default_cycles, default_conflicts}
@@ -133,10 +134,10 @@ verify_with rounds nodes library =
 abbrev pub verify_of : Options → Option Command
 verify_of o = if has_rounds_alone o then Some (verify_with o.rounds o.nodes o.library) else None
 
--- the settings of `improve` with these options: given words come without axioms, so it has a library of its own, and
--- registers go by live ranges
+-- the settings of `improve` with these options: given words come without axioms, so it has a library of its own;
+-- registers go by live ranges; and where no strategy is named, decisions are picked by activity
 abbrev pub improve_settings : Options → Settings
-improve_settings o = settings_of all_but_halves (record o { live = true })
+improve_settings o = settings_of all_but_halves (record o { live = true; pick = Some (unwrap_or o.pick Activity) })
 
 abbrev pub improve_of : Options → Command
 improve_of o = if o.least then ImproveLeast (improve_settings o) else Improve (improve_settings o)

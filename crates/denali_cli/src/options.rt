@@ -78,6 +78,8 @@ pub(crate) fn pick_of(word: &str) -> Option<Pick>
         Some(Pick::Last)
     } else if word == "busy" {
         Some(Pick::Busy)
+    } else if word == "activity" {
+        Some(Pick::Activity)
     } else {
         None
     }
@@ -250,8 +252,8 @@ fn no_options() -> Options
     }
 }
 
-/// Where an option isn't set, its default stands: 4 rounds, 512 rows, 8 cycles, 20,000 conflicts, and the command's own
-/// library.
+/// Where an option isn't set, its default stands: 4 rounds, 512 rows, 8 cycles, 20,000 conflicts, the free variable with
+/// the least number, and the command's own library.
 pub(crate) fn settings_of(options: Options, library: Library) -> Settings
     requires { values.AreInRange options }
     ensures value { result ≡ values.settings_of library options }
@@ -287,7 +289,7 @@ pub(crate) fn solve_of(options: Options) -> Command
 }
 
 /// The command of `improve` with these options. Given words come without axioms, so its own library has all families but
-/// one; and registers go by live ranges.
+/// one; registers go by live ranges; and its own pick is by activity.
 pub(crate) fn improve_of(options: Options) -> Command
     requires { values.AreInRange options }
     ensures value { result ≡ plain.improve_of options }
@@ -295,6 +297,7 @@ pub(crate) fn improve_of(options: Options) -> Command
 {
     let mut options = options;
     options.live = true;
+    options.pick = Some(options.pick.unwrap_or(Pick::Activity));
     let settings = settings_of(options, Library::all());
     if options.least {
         Command::ImproveLeast(settings)

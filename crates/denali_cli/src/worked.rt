@@ -1,8 +1,8 @@
 // What some words ask for, by the definitions.
 ghost use Rattle.std.specs.Prelude.{◌≡◌, [], ◌∷◌, None, Some, codes, true};
-ghost use Rattle.denali_run.specs.declared.settings.Pick.TheVariants.{Last, Busy};
-ghost use Rattle.axiom_library.specs.Libraries.{no_library};
-ghost use Rattle.denali_cli.specs.Commands.{Solve, SolveLeast, Proc, Check, CheckLeast, Trim, Verify, Run, Gen, Cnf};
+ghost use Rattle.pick_rule.specs.declared.pick.Pick.TheVariants.{Last, Busy, Activity};
+ghost use Rattle.axiom_library.specs.Libraries.{all_but_halves, no_library};
+ghost use Rattle.denali_cli.specs.Commands.{Solve, SolveLeast, Proc, Check, CheckLeast, Trim, Verify, Run, Gen, Cnf, Improve};
 ghost use Rattle.denali_cli.specs.OptionValues.{no_options, settings_of};
 ghost use Rattle.denali_cli.specs.Said.{command_of};
 ghost use Rattle.denali_cli.specs.Spellings.{spelled_command};
@@ -15,6 +15,12 @@ pub fn worked_words()
         ≡ Some (Solve (settings_of no_library (record no_options { pick = Some Last }))) }
     ensures picks_busiest { command_of (codes "solve" ∷ codes "--pick=busy" ∷ [])
         ≡ Some (Solve (settings_of no_library (record no_options { pick = Some Busy }))) }
+    ensures picks_active { command_of (codes "solve" ∷ codes "--pick" ∷ codes "activity" ∷ [])
+        ≡ Some (Solve (settings_of no_library (record no_options { pick = Some Activity }))) }
+    ensures improves { command_of (codes "improve" ∷ [])
+        ≡ Some (Improve (settings_of all_but_halves (record no_options { pick = Some Activity; live = true }))) }
+    ensures improves_as_picked { command_of (codes "improve" ∷ codes "--pick" ∷ codes "first" ∷ [])
+        ≡ Some (Improve (settings_of all_but_halves (record no_options { live = true }))) }
     ensures mixed { command_of (codes "solve" ∷ codes "--cycles=0" ∷ codes "--nodes" ∷ codes "7" ∷ [])
         ≡ Some (Solve (settings_of no_library (record no_options { nodes = Some 7; cycles = Some 0 }))) }
     ensures dashes { command_of (codes "solve" ∷ codes "--conflicts" ∷ codes "5" ∷ codes "--" ∷ [])

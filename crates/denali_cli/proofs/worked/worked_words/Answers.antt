@@ -2,9 +2,9 @@
 use Rattle.std.proofs.Common.{◌≡◌, [], ◌∷◌, Some, codes, refl, true}
 use Rattle.std.specs.Fmt.{digits}
 use Rattle.clap.proofs.OnLiterals.{clap_on_literals}
-use Rattle.denali_run.specs.declared.settings.Pick.TheVariants.{Last, Busy}
-use Rattle.axiom_library.specs.Libraries.{no_library}
-use Rattle.denali_cli.specs.Commands.{Solve, SolveLeast, Proc, Check, CheckLeast, Trim, Verify, Run, Gen, Cnf}
+use Rattle.pick_rule.specs.declared.pick.Pick.TheVariants.{Last, Busy, Activity}
+use Rattle.axiom_library.specs.Libraries.{all_but_halves, no_library}
+use Rattle.denali_cli.specs.Commands.{Solve, SolveLeast, Proc, Check, CheckLeast, Trim, Verify, Run, Gen, Cnf, Improve}
 use Rattle.denali_cli.specs.OptionValues.{no_options, settings_of}
 use Rattle.denali_cli.specs.Said.{command_of}
 use Rattle.denali_cli.specs.Spellings.{matched, spelled_command}
@@ -24,6 +24,21 @@ picks_busiest : command_of (codes "solve" ∷ codes "--pick=busy" ∷ [])
     ≡ Some (Solve (settings_of no_library (record no_options { pick = Some Busy })))
 unfolding clap_on_literals matched digits
 picks_busiest = refl
+
+picks_active : command_of (codes "solve" ∷ codes "--pick" ∷ codes "activity" ∷ [])
+    ≡ Some (Solve (settings_of no_library (record no_options { pick = Some Activity })))
+unfolding clap_on_literals matched digits
+picks_active = refl
+
+improves : command_of (codes "improve" ∷ [])
+    ≡ Some (Improve (settings_of all_but_halves (record no_options { pick = Some Activity; live = true })))
+unfolding clap_on_literals matched digits
+improves = refl
+
+improves_as_picked : command_of (codes "improve" ∷ codes "--pick" ∷ codes "first" ∷ [])
+    ≡ Some (Improve (settings_of all_but_halves (record no_options { live = true })))
+unfolding clap_on_literals matched digits
+improves_as_picked = refl
 
 mixed : command_of (codes "solve" ∷ codes "--cycles=0" ∷ codes "--nodes" ∷ codes "7" ∷ [])
     ≡ Some (Solve (settings_of no_library (record no_options { nodes = Some 7; cycles = Some 0 })))
@@ -155,6 +170,9 @@ returns c = record {
   joined = joined;
   picks_last = picks_last;
   picks_busiest = picks_busiest;
+  picks_active = picks_active;
+  improves = improves;
+  improves_as_picked = improves_as_picked;
   mixed = mixed;
   dashes = dashes;
   plain = plain;
