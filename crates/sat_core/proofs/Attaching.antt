@@ -10,8 +10,9 @@ use Rattle.cnf_core.specs.Values.{IsUnassigned, IsOpenClause}
 use Rattle.sat_core.specs.declared.trail.Step.{Step}
 use Rattle.sat_core.specs.declared.watches.Watcher.{Watcher}
 use Rattle.sat_core.specs.declared.watches.Pair.{Pair}
+use Rattle.sat_core.specs.Copies.{Copied}
 use Rattle.sat_core.specs.Steps.{trail_values, AreClosedBefore}
-use Rattle.sat_core.specs.Watches.{no_pair, list_of, watchers, pair_at, StandsFrom, with_watcher, with_pair, IsWatcher, NeedsNoVisit, KeepsWatch, KeepWatches, IsNoLater, IsChosen}
+use Rattle.sat_core.specs.Watches.{no_copied, list_of, watchers, pair_at, StandsFrom, with_watcher, with_pair, IsWatcher, NeedsNoVisit, KeepsWatch, KeepWatches, IsNoLater, IsChosen}
 use Rattle.sat_core.proofs.Holding.{none≢some}
 use Rattle.sat_core.proofs.Quiet.{grows-whole, quiet-weaker, lit-eq-cases}
 use Rattle.sat_core.proofs.Exchanging.{stands-with, stands-new, all-with}
@@ -41,40 +42,51 @@ chosen-quiet steps c p k le h open' =
               )
         ]
 
+-- the clauses, and the next one with these watched literals
+abbrev pub with_copied : List (List Lit) → List Copied → Pair → List Copied
+with_copied clauses pairs p = pairs ++ record { pair = p; lits = get_or clauses (length pairs) [] } ∷ []
+
 -- what a new clause needs of the lists
-record IsListed (clauses : List (List Lit)) (lists lists' : List (List Watcher)) (pairs : List Pair) (p : Pair) : Type 0 where
+record IsListed (clauses : List (List Lit)) (lists lists' : List (List Watcher)) (pairs : List Copied) (p : Pair) : Type 0 where
   size : length lists' ≡ length lists
-  right : (k : ℕ) → All (IsWatcher clauses (pairs ++ p ∷ []) k) (watchers lists' k)
+  right : (k : ℕ) → All (IsWatcher clauses (with_copied clauses pairs p) k) (watchers lists' k)
   stays : (i k : ℕ) → StandsFrom 0 (watchers lists i) k → StandsFrom 0 (watchers lists' i) k
   listed_a : p.a ≢ p.b → StandsFrom 0 (watchers lists' (list_of p.a)) (length pairs)
   listed_b : p.a ≢ p.b → StandsFrom 0 (watchers lists' (list_of p.b)) (length pairs)
 
-pair-before : (pairs : List Pair) (p : Pair) (k : ℕ) → k < length pairs → pair_at (pairs ++ p ∷ []) k ≡ pair_at pairs k
-pair-before pairs p k few = get_or_append_left pairs (p ∷ []) no_pair k few
+pair-before : (clauses : List (List Lit)) (pairs : List Copied) (p : Pair) (k : ℕ) → k < length pairs → pair_at (with_copied clauses pairs p) k ≡ pair_at pairs k
+pair-before clauses pairs p k few = ap (λ (y : Copied). y.pair) (get_or_append_left pairs (record { pair = p; lits = get_or clauses (length pairs) [] } ∷ []) no_copied k few)
 
-pair-last : (pairs : List Pair) (p : Pair) (k : ℕ) → length pairs ≡ k → pair_at (pairs ++ p ∷ []) k ≡ p
-pair-last pairs p k is = get_or_push pairs p no_pair k is
+pair-last : (clauses : List (List Lit)) (pairs : List Copied) (p : Pair) (k : ℕ) → length pairs ≡ k → pair_at (with_copied clauses pairs p) k ≡ p
+pair-last clauses pairs p k is = ap (λ (y : Copied). y.pair) (get_or_push pairs (record { pair = p; lits = get_or clauses (length pairs) [] }) no_copied k is)
 
-added-with : (clauses : List (List Lit)) (n : ℕ) (steps : List Step) (lists lists' : List (List Watcher)) (pairs : List Pair) (qhead : ℕ) (p : Pair)
+added-with : (clauses : List (List Lit)) (n : ℕ) (steps : List Step) (lists lists' : List (List Watcher)) (pairs : List Copied) (qhead : ℕ) (p : Pair)
     → KeepWatches clauses n steps lists pairs qhead → length pairs < length clauses → IsChosen steps (get_or clauses (length pairs) []) p
     → AreClosedBefore clauses steps → IsOpenClause (trail_values steps) (get_or clauses (length pairs) []) → IsListed clauses lists lists' pairs p
-    → KeepWatches clauses n steps lists' (pairs ++ p ∷ []) qhead
+    → KeepWatches clauses n steps lists' (with_copied clauses pairs p) qhead
 added-with clauses n steps lists lists' pairs qhead p h more chosen before open' x =
-    let long = length_push pairs p in
-    let pairs' = pairs ++ p ∷ [] in
+    let long = length_push pairs (record { pair = p; lits = get_or clauses (length pairs) [] }) in
+    let pairs' = with_copied clauses pairs p in
     let size = x.size in
     let count' = h.count in
     let c = get_or clauses (length pairs) [] in
     let all : take (length steps) steps ≡ steps = take_all (length steps) steps (omega arith) in
     record {
+      few = h.few;
       count = omega arith;
       attached = omega arith;
+      copies = λ k few. elim (cases_lt k (length pairs)) [
+        | inl first ↦ ap (λ (y : Copied). y.lits) (get_or_append_left pairs (record { pair = p; lits = c } ∷ []) no_copied k first) ∙ h.copies k first
+        | inr last ↦
+            (let here : length pairs ≡ k = omega arith in
+            ap (λ (y : Copied). y.lits) (get_or_push pairs (record { pair = p; lits = c }) no_copied k here) ∙ ap (λ (j : ℕ). get_or clauses j []) here)
+      ];
       within = h.within;
       right = x.right;
       kept = λ k few. elim (cases_lt k (length pairs)) [
         | inl first ↦
             (let o = h.kept k first in
-            subst (λ (y : Pair). KeepsWatch steps lists' qhead k (get_or clauses k []) y) (sym (pair-before pairs p k first))
+            subst (λ (y : Pair). KeepsWatch steps lists' qhead k (get_or clauses k []) y) (sym (pair-before clauses pairs p k first))
             (record {
               has_a = o.has_a;
               has_b = o.has_b;
@@ -85,7 +97,7 @@ added-with clauses n steps lists lists' pairs qhead p h more chosen before open'
             }))
         | inr last ↦
             (let here : length pairs ≡ k = omega arith in
-            subst (λ (y : Pair). KeepsWatch steps lists' qhead k (get_or clauses k []) y) (sym (pair-last pairs p k here))
+            subst (λ (y : Pair). KeepsWatch steps lists' qhead k (get_or clauses k []) y) (sym (pair-last clauses pairs p k here))
             (subst (λ (j : ℕ). KeepsWatch steps lists' qhead j (get_or clauses j []) p) here
             (record {
               has_a = chosen.has_a;
@@ -101,23 +113,23 @@ added-with clauses n steps lists lists' pairs qhead p h more chosen before open'
       ];
     }
 
-watcher-more : (clauses : List (List Lit)) (pairs : List Pair) (p : Pair) (k : ℕ) (w : Watcher) → IsWatcher clauses pairs k w → IsWatcher clauses (pairs ++ p ∷ []) k w
+watcher-more : (clauses : List (List Lit)) (pairs : List Copied) (p : Pair) (k : ℕ) (w : Watcher) → IsWatcher clauses pairs k w → IsWatcher clauses (with_copied clauses pairs p) k w
 watcher-more clauses pairs p k w r =
-    let long = length_push pairs p in
+    let long = length_push pairs (record { pair = p; lits = get_or clauses (length pairs) [] }) in
     let e = r.exists in
     record {
       exists = omega arith;
       has_blocker = r.has_blocker;
-      differ = subst (λ (y : Pair). y.a ≢ y.b) (sym (pair-before pairs p w.clause r.exists)) r.differ;
+      differ = subst (λ (y : Pair). y.a ≢ y.b) (sym (pair-before clauses pairs p w.clause r.exists)) r.differ;
       binary = r.binary;
     }
 
 -- **a new clause gets its watched literals**
-pub kept-added : (clauses : List (List Lit)) (n : ℕ) (steps : List Step) (lists lists' : List (List Watcher)) (pairs : List Pair) (qhead : ℕ) (p : Pair) (binary : Bool)
+pub kept-added : (clauses : List (List Lit)) (n : ℕ) (steps : List Step) (lists lists' : List (List Watcher)) (pairs : List Copied) (qhead : ℕ) (p : Pair) (binary : Bool)
     → KeepWatches clauses n steps lists pairs qhead → length pairs < length clauses → IsChosen steps (get_or clauses (length pairs) []) p
     → AreClosedBefore clauses steps → IsOpenClause (trail_values steps) (get_or clauses (length pairs) [])
     → list_of p.a < length lists → list_of p.b < length lists → (p.a ≡ p.b → lists' ≡ lists) → (p.a ≢ p.b → lists' ≡ with_pair lists (length pairs) p binary)
-    → (IsTrue binary → (p.a ≢ p.b) → All (λ m. (m ≡ p.a) ⊎ (m ≡ p.b)) (get_or clauses (length pairs) [])) → KeepWatches clauses n steps lists' (pairs ++ p ∷ []) qhead
+    → (IsTrue binary → (p.a ≢ p.b) → All (λ m. (m ≡ p.a) ⊎ (m ≡ p.b)) (get_or clauses (length pairs) [])) → KeepWatches clauses n steps lists' (with_copied clauses pairs p) qhead
 kept-added clauses n steps lists lists' pairs qhead p binary h more chosen before open' in-a in-b one two both =
     added-with clauses n steps lists lists' pairs qhead p h more chosen before open'
     (elim (lit-eq-cases p.a p.b) [
@@ -125,7 +137,7 @@ kept-added clauses n steps lists lists' pairs qhead p binary h more chosen befor
           subst (λ (ls : List (List Watcher)). IsListed clauses lists ls pairs p) (sym (one same))
           (record {
             size = refl;
-            right = λ k. All-weaker (IsWatcher clauses pairs k) (IsWatcher clauses (pairs ++ p ∷ []) k) (watcher-more clauses pairs p k) (watchers lists k) (h.right k);
+            right = λ k. All-weaker (IsWatcher clauses pairs k) (IsWatcher clauses (with_copied clauses pairs p) k) (watcher-more clauses pairs p k) (watchers lists k) (h.right k);
             stays = λ i k stands. stands;
             listed_a = λ differ. absurd (differ same);
             listed_b = λ differ. absurd (differ same);
@@ -133,15 +145,15 @@ kept-added clauses n steps lists lists' pairs qhead p binary h more chosen befor
       | inr differ ↦
           (let id = length pairs in
           let c = get_or clauses id [] in
-          let long = length_push pairs p in
-          let P : ℕ → Watcher → Type 0 = IsWatcher clauses (pairs ++ p ∷ []) in
+          let long = length_push pairs (record { pair = p; lits = get_or clauses (length pairs) [] }) in
+          let P : ℕ → Watcher → Type 0 = IsWatcher clauses (with_copied clauses pairs p) in
           let first : Watcher = record { clause = id; blocker = p.b; binary = binary } in
           let second : Watcher = record { clause = id; blocker = p.a; binary = binary } in
           let mid = with_watcher lists (list_of p.a) first in
           let size = length-set lists (list_of p.a) (watchers lists (list_of p.a) ++ first ∷ []) in
           let size' = length-set mid (list_of p.b) (watchers mid (list_of p.b) ++ second ∷ []) in
           let in-b' : list_of p.b < length mid = omega arith in
-          let ne : (pair_at (pairs ++ p ∷ []) id).a ≢ (pair_at (pairs ++ p ∷ []) id).b = subst (λ (y : Pair). y.a ≢ y.b) (sym (pair-last pairs p id refl)) differ in
+          let ne : (pair_at (with_copied clauses pairs p) id).a ≢ (pair_at (with_copied clauses pairs p) id).b = subst (λ (y : Pair). y.a ≢ y.b) (sym (pair-last clauses pairs p id refl)) differ in
           subst (λ (ls : List (List Watcher)). IsListed clauses lists ls pairs p) (sym (two differ))
           (record {
             size = omega arith;

@@ -10,8 +10,9 @@ use Rattle.cnf_core.specs.Values.{Partial, IsFalse}
 use Rattle.sat_core.specs.declared.trail.Step.{Step}
 use Rattle.sat_core.specs.declared.watches.Watcher.{Watcher}
 use Rattle.sat_core.specs.declared.watches.Pair.{Pair}
+use Rattle.sat_core.specs.Copies.{Copied}
 use Rattle.sat_core.specs.Steps.{trail_values, IsTrail}
-use Rattle.sat_core.specs.Watches.{no_pair, no_watcher, list_of, watchers, pair_at, StandsFrom, IsRemoved, with_watcher, IsWatcher, NeedsNoVisit, KeepsWatch, KeepWatches, ArePassedIn, IsFalsifiedAt}
+use Rattle.sat_core.specs.Watches.{no_copied, lits_at, exchanged, no_watcher, list_of, watchers, pair_at, StandsFrom, IsRemoved, with_watcher, IsWatcher, NeedsNoVisit, KeepsWatch, KeepWatches, ArePassedIn, IsFalsifiedAt}
 use Rattle.sat_core.proofs.Quiet.{Grows, grows-whole, false-next}
 use Rattle.sat_core.proofs.Watching.{list_of-differ}
 
@@ -84,14 +85,24 @@ all-removed P lists list place i rest few r all =
       | inr other ↦ subst (All (P i)) (sym other.1) (all i)
     ]
 
-pair-other : (pairs : List Pair) (id k : ℕ) (p : Pair) → id ≢ k → pair_at (set pairs id p) k ≡ pair_at pairs k
-pair-other pairs id k p ne = get_or-set_other pairs id k p no_pair (λ e. ne (sym e))
+pair-other : (pairs : List Copied) (id k : ℕ) (p : Pair) → id ≢ k → pair_at (exchanged pairs id p) k ≡ pair_at pairs k
+pair-other pairs id k p ne = ap (λ (y : Copied). y.pair) (get_or-set_other pairs id k (record { pair = p; lits = lits_at pairs id }) no_copied (λ e. ne (sym e)))
 
-pair-same : (pairs : List Pair) (id : ℕ) (p : Pair) → id < length pairs → pair_at (set pairs id p) id ≡ p
-pair-same pairs id p few = get_or-set_same pairs id p no_pair few
+pair-same : (pairs : List Copied) (id : ℕ) (p : Pair) → id < length pairs → pair_at (exchanged pairs id p) id ≡ p
+pair-same pairs id p few = ap (λ (y : Copied). y.pair) (get_or-set_same pairs id (record { pair = p; lits = lits_at pairs id }) no_copied few)
+
+lits-stay : (pairs : List Copied) (id k : ℕ) (p : Pair) → id < length pairs → lits_at (exchanged pairs id p) k ≡ lits_at pairs k
+lits-stay pairs id k p few =
+    let y : Copied = record { pair = p; lits = lits_at pairs id } in
+    elim (cases_eq id k) [
+      | inl same ↦
+          subst (λ (j : ℕ). lits_at (exchanged pairs id p) j ≡ lits_at pairs j) same
+          (ap (λ (x : Copied). x.lits) (get_or-set_same pairs id y no_copied few))
+      | inr ne ↦ ap (λ (x : Copied). x.lits) (get_or-set_other pairs id k y no_copied (λ e. ne (sym e)))
+    ]
 
 -- what an exchange of a watched literal knows: the clause at a place of the list of a false literal gets another one
-pub record IsExchange (clauses : List (List Lit)) (steps : List Step) (lists : List (List Watcher)) (pairs : List Pair) (l : Lit) (place id : ℕ) (p : Pair) : Type 0 where
+pub record IsExchange (clauses : List (List Lit)) (steps : List Step) (lists : List (List Watcher)) (pairs : List Copied) (l : Lit) (place id : ℕ) (p : Pair) : Type 0 where
   pub low : 1 ≤ l.var
   pub low_a : 1 ≤ p.a.var
   pub low_b : 1 ≤ p.b.var
@@ -106,7 +117,7 @@ pub record IsExchange (clauses : List (List Lit)) (steps : List Step) (lists : L
   pub free : IsFalse (trail_values steps) p.b → ⊥
 
 -- of the old pair
-pub exists-at : (clauses : List (List Lit)) (n : ℕ) (steps : List Step) (lists : List (List Watcher)) (pairs : List Pair) (qhead : ℕ) (l : Lit) (place id : ℕ)
+pub exists-at : (clauses : List (List Lit)) (n : ℕ) (steps : List Step) (lists : List (List Watcher)) (pairs : List Copied) (qhead : ℕ) (l : Lit) (place id : ℕ)
     → KeepWatches clauses n steps lists pairs qhead → place < length (watchers lists (list_of l)) → (get_or (watchers lists (list_of l)) place no_watcher).clause ≡ id
     → (id < length pairs) × ((pair_at pairs id).a ≢ (pair_at pairs id).b)
 exists-at clauses n steps lists pairs qhead l place id h within is =
@@ -145,20 +156,20 @@ abbrev pub exchanged-lists : List (List Watcher) → Lit → List Watcher → �
 exchanged-lists lists l rest id p = with_watcher (set lists (list_of l) rest) (list_of p.b) (record { clause = id; blocker = p.a; binary = false })
 
 -- **a clause watches another literal**
-pub kept-moved : (clauses : List (List Lit)) (n : ℕ) (steps : List Step) (lists : List (List Watcher)) (pairs : List Pair) (qhead : ℕ) (l : Lit) (place id : ℕ) (p : Pair) (rest : List Watcher)
+pub kept-moved : (clauses : List (List Lit)) (n : ℕ) (steps : List Step) (lists : List (List Watcher)) (pairs : List Copied) (qhead : ℕ) (l : Lit) (place id : ℕ) (p : Pair) (rest : List Watcher)
     → KeepWatches clauses n steps lists pairs qhead → IsExchange clauses steps lists pairs l place id p → IsRemoved (watchers lists (list_of l)) place rest
-    → KeepWatches clauses n steps (exchanged-lists lists l rest id p) (set pairs id p) qhead
+    → KeepWatches clauses n steps (exchanged-lists lists l rest id p) (exchanged pairs id p) qhead
 kept-moved clauses n steps lists pairs qhead l place id p rest h x r =
     let q = list_of l in
     let mid = set lists q rest in
     let size = length-set lists q rest in
     let w : Watcher = record { clause = id; blocker = p.a; binary = false } in
     let lists' = exchanged-lists lists l rest id p in
-    let pairs' = set pairs id p in
+    let pairs' = exchanged pairs id p in
     let c = get_or clauses id [] in
     let o = pair_at pairs id in
     let size' = length-set mid (list_of p.b) (watchers mid (list_of p.b) ++ w ∷ []) in
-    let many = length-set pairs id p in
+    let many = length-set pairs id (record { pair = p; lits = lits_at pairs id }) in
     let (exists, differ) = exists-at clauses n steps lists pairs qhead l place id h x.within x.is in
     let old = h.kept id exists in
     let few-list = x.list in
@@ -182,8 +193,10 @@ kept-moved clauses n steps lists pairs qhead l place id p rest h x r =
     stands-with mid (list_of p.b) i 0 k w few-b (stands-removed lists q place i 0 k rest x.list r (λ e. ne (sym x.is ∙ e)) (omega arith) stands) in
     let apart : list_of p.a ≢ q = list_of-differ p.a l x.low_a x.low (stays-other o l p.a x.first differ) in
     record {
+      few = h.few;
       count = omega arith;
       attached = omega arith;
+      copies = λ k few. lits-stay pairs id k p exists ∙ h.copies k (omega arith);
       within = h.within;
       right = λ k. all-with P mid (list_of p.b) k w few-b (record {
         exists = omega arith;
@@ -220,9 +233,9 @@ kept-moved clauses n steps lists pairs qhead l place id p rest h x r =
     }
 
 -- **and the list is as far as before, with one watcher fewer**
-pub passed-moved : (clauses : List (List Lit)) (n : ℕ) (steps : List Step) (lists : List (List Watcher)) (pairs : List Pair) (qhead : ℕ) (l : Lit) (place id : ℕ) (p : Pair) (rest : List Watcher)
+pub passed-moved : (clauses : List (List Lit)) (n : ℕ) (steps : List Step) (lists : List (List Watcher)) (pairs : List Copied) (qhead : ℕ) (l : Lit) (place id : ℕ) (p : Pair) (rest : List Watcher)
     → IsTrail clauses steps → IsFalsifiedAt steps qhead l → KeepWatches clauses n steps lists pairs qhead → IsExchange clauses steps lists pairs l place id p → IsRemoved (watchers lists (list_of l)) place rest
-    → ArePassedIn clauses steps lists pairs qhead (list_of l) place → ArePassedIn clauses steps (exchanged-lists lists l rest id p) (set pairs id p) qhead (list_of l) place
+    → ArePassedIn clauses steps lists pairs qhead (list_of l) place → ArePassedIn clauses steps (exchanged-lists lists l rest id p) (exchanged pairs id p) qhead (list_of l) place
 passed-moved clauses n steps lists pairs qhead l place id p rest trail at h x r passed k few =
     let q = list_of l in
     let mid = set lists q rest in
@@ -231,13 +244,13 @@ passed-moved clauses n steps lists pairs qhead l place id p rest trail at h x r 
     let lists' = exchanged-lists lists l rest id p in
     let c = get_or clauses id [] in
     let o = pair_at pairs id in
-    let many = length-set pairs id p in
+    let many = length-set pairs id (record { pair = p; lits = lits_at pairs id }) in
     let (exists, differ) = exists-at clauses n steps lists pairs qhead l place id h x.within x.is in
     let old = h.kept id exists in
     let few-b : list_of p.b < length mid = (let e = x.list_b in omega arith) in
     elim (cases_eq id k) [
       | inl same ↦
-          inl (subst (λ (j : ℕ). NeedsNoVisit (trail_values (take (qhead + 1) steps)) (trail_values steps) (get_or clauses j []) (pair_at (set pairs id p) j)) same
+          inl (subst (λ (j : ℕ). NeedsNoVisit (trail_values (take (qhead + 1) steps)) (trail_values steps) (get_or clauses j []) (pair_at (exchanged pairs id p) j)) same
           (subst (λ (y : Pair). NeedsNoVisit (trail_values (take (qhead + 1) steps)) (trail_values steps) c y) (sym (pair-same pairs id p exists))
           (elim old.visited [
             | inl one ↦ inl one
@@ -256,7 +269,7 @@ passed-moved clauses n steps lists pairs qhead l place id p rest trail at h x r 
       ]
     ]
 
-pub fewer-moved : (clauses : List (List Lit)) (steps : List Step) (lists : List (List Watcher)) (pairs : List Pair) (l : Lit) (place id : ℕ) (p : Pair) (rest : List Watcher)
+pub fewer-moved : (clauses : List (List Lit)) (steps : List Step) (lists : List (List Watcher)) (pairs : List Copied) (l : Lit) (place id : ℕ) (p : Pair) (rest : List Watcher)
     → IsExchange clauses steps lists pairs l place id p → IsRemoved (watchers lists (list_of l)) place rest
     → length (watchers (exchanged-lists lists l rest id p) (list_of l)) + 1 ≡ length (watchers lists (list_of l))
 fewer-moved clauses steps lists pairs l place id p rest x r =

@@ -4,6 +4,7 @@ pub mod Attaching
 pub mod Bound
 pub mod Choices
 pub mod Choosing
+pub mod Copying
 pub mod Deciding
 mod Ending
 pub mod Exchanging

@@ -8,7 +8,7 @@ use Rattle.std.proofs.lemmas.List.Elements.{All-set}
 use Rattle.cnf_core.specs.declared.literal.Lit.{Lit}
 use Rattle.sat_core.specs.declared.trail.Step.{Step}
 use Rattle.sat_core.specs.declared.watches.Watcher.{Watcher}
-use Rattle.sat_core.specs.declared.watches.Pair.{Pair}
+use Rattle.sat_core.specs.Copies.{Copied}
 use Rattle.sat_core.specs.Watches.{no_watcher, list_of, watchers, with_blocker, watcher_with, pair_at, StandsFrom, IsWatcher, KeepWatches, ArePassedIn}
 use Rattle.sat_core.proofs.Exchanging.{set-at}
 
@@ -38,7 +38,7 @@ stands-renewed lists list place i from id blocker few within (j, low, within', i
           (j, low, (omega arith), renewed-at xs place j blocker within ∙ ap (λ (ys : List Watcher). (get_or ys j no_watcher).clause) (sym there) ∙ is)))
     ]
 
-pub kept-renewed : (clauses : List (List Lit)) (n : ℕ) (steps : List Step) (lists : List (List Watcher)) (pairs : List Pair) (qhead list place : ℕ) (blocker : Lit)
+pub kept-renewed : (clauses : List (List Lit)) (n : ℕ) (steps : List Step) (lists : List (List Watcher)) (pairs : List Copied) (qhead list place : ℕ) (blocker : Lit)
     → list < length lists → place < length (watchers lists list) → Contains (get_or clauses (get_or (watchers lists list) place no_watcher).clause []) blocker
     → (IsTrue (get_or (watchers lists list) place no_watcher).binary → ⊥) → KeepWatches clauses n steps lists pairs qhead → KeepWatches clauses n steps (with_blocker lists list place blocker) pairs qhead
 kept-renewed clauses n steps lists pairs qhead list place blocker few within among long h =
@@ -47,7 +47,9 @@ kept-renewed clauses n steps lists pairs qhead list place blocker few within amo
     let old = h.right list place no_watcher within in
     record {
       count = length-set lists list (set xs place w) ∙ h.count;
+      few = h.few;
       attached = h.attached;
+      copies = h.copies;
       within = h.within;
       right = λ k. elim (set-at lists list k (set xs place w) few) [
         | inl (same, is) ↦
@@ -68,7 +70,7 @@ kept-renewed clauses n steps lists pairs qhead list place blocker few within amo
           });
     }
 
-pub passed-renewed : (clauses : List (List Lit)) (steps : List Step) (lists : List (List Watcher)) (pairs : List Pair) (qhead list place from : ℕ) (blocker : Lit)
+pub passed-renewed : (clauses : List (List Lit)) (steps : List Step) (lists : List (List Watcher)) (pairs : List Copied) (qhead list place from : ℕ) (blocker : Lit)
     → list < length lists → place < length (watchers lists list) → ArePassedIn clauses steps lists pairs qhead list from → ArePassedIn clauses steps (with_blocker lists list place blocker) pairs qhead list from
 passed-renewed clauses steps lists pairs qhead list place from blocker few within h id few' =
     elim (h id few') [ inl quiet ↦ inl quiet | inr stands ↦ inr (stands-renewed lists list place list from id blocker few within stands) ]

@@ -17,18 +17,19 @@ use Rattle.sat_core.specs.declared.propagation.Visit.{Visit}
 use Rattle.sat_core.specs.declared.propagation.Visit.TheVariants.{Stays, Moved, Falsified}
 use Rattle.sat_core.specs.FalseClauses.{IsFalsified}
 use Rattle.sat_core.specs.declared.trail.Value.{Value}
+use Rattle.sat_core.specs.Copies.{Copied}
 use Rattle.sat_core.specs.Steps.{assignment_of, trail_values, IsReason, IsRightStep, AreSteps, Propagates, AreClosedBefore}
-use Rattle.sat_core.specs.Watches.{no_pair, no_watcher, list_of, watchers, pair_at, IsTrueClause, with_pair, IsWatcher, KeepWatches, ArePassedIn, IsFalsifiedAt, IsReplacement, IsNextReplacement, IsPassedOver, AreWatched, ArePassed, VisitSays, SettleSays, IsChosen}
+use Rattle.sat_core.specs.Watches.{no_watcher, list_of, watchers, pair_at, IsTrueClause, with_pair, IsWatcher, KeepWatches, ArePassedIn, IsFalsifiedAt, IsReplacement, IsNextReplacement, IsPassedOver, AreWatched, ArePassed, VisitSays, SettleSays, IsChosen}
 use Rattle.sat_core.proofs.Holding.{held-push-same}
 use Rattle.sat_core.proofs.Agreeing.{open-agrees}
 use Rattle.sat_core.proofs.States.{agree}
 use Rattle.sat_core.proofs.Quiet.{lit-cases, lit-eq-cases, false-at}
-use Rattle.sat_core.proofs.Attaching.{kept-added}
+use Rattle.sat_core.proofs.Attaching.{with_copied, kept-added}
 use Rattle.sat_core.proofs.Exchanging.{stays-one, IsExchange}
 use Rattle.sat_core.proofs.Watching.{list_of-differ, list-within, kept-push, passed-push, passed-next}
 
 -- the watcher at a place of a literal's list
-pub record IsVisit (clauses : List (List Lit)) (n : ℕ) (lists : List (List Watcher)) (pairs : List Pair) (l : Lit) (place : ℕ) (w : Watcher) : Type 0 where
+pub record IsVisit (clauses : List (List Lit)) (n : ℕ) (lists : List (List Watcher)) (pairs : List Copied) (l : Lit) (place : ℕ) (w : Watcher) : Type 0 where
   pub is : w ≡ get_or (watchers lists (list_of l)) place no_watcher
   pub right : IsWatcher clauses pairs (list_of l) w
   pub exists : w.clause < length clauses
@@ -36,7 +37,7 @@ pub record IsVisit (clauses : List (List Lit)) (n : ℕ) (lists : List (List Wat
   pub list : list_of l < length lists
   pub within : place < length (watchers lists (list_of l))
 
-pub visit-start : (clauses : List (List Lit)) (n : ℕ) (steps : List Step) (lists : List (List Watcher)) (pairs : List Pair) (qhead : ℕ) (l : Lit) (place list : ℕ) (x : List Watcher) (w : Watcher)
+pub visit-start : (clauses : List (List Lit)) (n : ℕ) (steps : List Step) (lists : List (List Watcher)) (pairs : List Copied) (qhead : ℕ) (l : Lit) (place list : ℕ) (x : List Watcher) (w : Watcher)
     → KeepWatches clauses n steps lists pairs qhead → AreOver n clauses → IsLitOf n l → place < length (watchers lists (list_of l))
     → list ≡ list_of l → x ≡ get_or lists list x → w ≡ get_or x place no_watcher → IsVisit clauses n lists pairs l place w
 visit-start clauses n steps lists pairs qhead l place list x w h over at within is-list is-x is-w =
@@ -48,23 +49,22 @@ visit-start clauses n steps lists pairs qhead l place list x w h over at within 
     record { is = is; right = right; exists = exists; over = over w.clause [] exists; list = few; within = within }
 
 -- the literal of its clause that isn't the false one
-pub record IsOther (clauses : List (List Lit)) (n : ℕ) (pairs : List Pair) (l : Lit) (id : ℕ) (other : Lit) : Type 0 where
+pub record IsOther (clauses : List (List Lit)) (n : ℕ) (pairs : List Copied) (l : Lit) (id : ℕ) (other : Lit) : Type 0 where
   pub first : (((pair_at pairs id).a ≡ l) × (other ≡ (pair_at pairs id).b)) ⊎ (((pair_at pairs id).a ≢ l) × (other ≡ (pair_at pairs id).a))
   pub among : Contains (get_or clauses id []) other
   pub exist : IsLitOf n other
 
-pub visit-other : (clauses : List (List Lit)) (n : ℕ) (steps : List Step) (lists : List (List Watcher)) (pairs : List Pair) (qhead : ℕ) (l : Lit) (place : ℕ) (w : Watcher) (p : Pair) (other : Lit)
-    → KeepWatches clauses n steps lists pairs qhead → IsVisit clauses n lists pairs l place w → p ≡ get_or pairs w.clause p
+pub visit-other : (clauses : List (List Lit)) (n : ℕ) (steps : List Step) (lists : List (List Watcher)) (pairs : List Copied) (qhead : ℕ) (l : Lit) (place : ℕ) (w : Watcher) (p : Pair) (other : Lit)
+    → KeepWatches clauses n steps lists pairs qhead → IsVisit clauses n lists pairs l place w → p ≡ pair_at pairs w.clause
     → ((p.a ≡ l) × (other ≡ p.b)) ⊎ ((p.a ≢ l) × (other ≡ p.a)) → IsOther clauses n pairs l w.clause other
 visit-other clauses n steps lists pairs qhead l place w p other h v is-p first =
-    let is = get_or_read pairs w.clause p v.right.exists is-p no_pair in
-    let first' = subst (λ (y : Pair). ((y.a ≡ l) × (other ≡ y.b)) ⊎ ((y.a ≢ l) × (other ≡ y.a))) is first in
+    let first' = subst (λ (y : Pair). ((y.a ≡ l) × (other ≡ y.b)) ⊎ ((y.a ≢ l) × (other ≡ y.a))) is-p first in
     let o = h.kept w.clause v.right.exists in
     let among = stays-one (Contains (get_or clauses w.clause [])) (pair_at pairs w.clause) l other first' o.has_a o.has_b in
     record { first = first'; among = among; exist = All-contains (IsLitOf n) (get_or clauses w.clause []) other v.over among }
 
 -- **its clause is true**
-pub visit-true : (clauses : List (List Lit)) (n : ℕ) (steps : List Step) (values : List Value) (indices decisions : List ℕ) (lists : List (List Watcher)) (pairs : List Pair) (qhead : ℕ) (l : Lit) (place : ℕ) (w : Watcher) (m : Lit)
+pub visit-true : (clauses : List (List Lit)) (n : ℕ) (steps : List Step) (values : List Value) (indices decisions : List ℕ) (lists : List (List Watcher)) (pairs : List Copied) (qhead : ℕ) (l : Lit) (place : ℕ) (w : Watcher) (m : Lit)
     → AreSteps clauses n steps values indices decisions → IsVisit clauses n lists pairs l place w → Contains (get_or clauses w.clause []) m → IsHeld (assignment_of values) m
     → ArePassedIn clauses steps lists pairs qhead (list_of l) place → ArePassedIn clauses steps lists pairs qhead (list_of l) (place + 1)
 visit-true clauses n steps values indices decisions lists pairs qhead l place w m s v among holds passed =
@@ -104,7 +104,7 @@ visit-unit s clauses id c m is few among all not-held not-false =
     }
 
 -- **a clause of two literals**: all but the blocker are false
-pub visit-binary : (clauses : List (List Lit)) (n : ℕ) (steps : List Step) (values : List Value) (indices decisions : List ℕ) (lists : List (List Watcher)) (pairs : List Pair) (qhead : ℕ) (l : Lit) (place : ℕ) (w : Watcher)
+pub visit-binary : (clauses : List (List Lit)) (n : ℕ) (steps : List Step) (values : List Value) (indices decisions : List ℕ) (lists : List (List Watcher)) (pairs : List Copied) (qhead : ℕ) (l : Lit) (place : ℕ) (w : Watcher)
     → AreSteps clauses n steps values indices decisions → IsFalsifiedAt steps qhead l → IsLitOf n l → IsVisit clauses n lists pairs l place w → IsTrue w.binary
     → All (IsPassedOver (assignment_of values) w.blocker) (get_or clauses w.clause [])
 visit-binary clauses n steps values indices decisions lists pairs qhead l place w s at exist v two k d few =
@@ -118,7 +118,7 @@ visit-binary clauses n steps values indices decisions lists pairs qhead l place 
       ]
     ]
 
-pub visit-step : (clauses : List (List Lit)) (n : ℕ) (steps new : List Step) (lists : List (List Watcher)) (pairs : List Pair) (qhead : ℕ) (l : Lit) (place : ℕ) (w : Watcher) (m : Lit) (id : ℕ)
+pub visit-step : (clauses : List (List Lit)) (n : ℕ) (steps new : List Step) (lists : List (List Watcher)) (pairs : List Copied) (qhead : ℕ) (l : Lit) (place : ℕ) (w : Watcher) (m : Lit) (id : ℕ)
     → qhead < length steps → new ≡ steps ++ record { lit = m; reason = Some id } ∷ [] → IsVisit clauses n lists pairs l place w → Contains (get_or clauses w.clause []) m
     → IsRightStep clauses steps (record { lit = m; reason = Some id }) → KeepWatches clauses n steps lists pairs qhead → ArePassedIn clauses steps lists pairs qhead (list_of l) place
     → KeepWatches clauses n new lists pairs qhead × ArePassedIn clauses new lists pairs qhead (list_of l) (place + 1)
@@ -164,7 +164,7 @@ settled-if (Ok v) P Q holds f = f v holds
 settled-if (Err e) P Q holds f = tt
 
 -- **its clause gets another watched literal**
-pub visit-exchange : (clauses : List (List Lit)) (n : ℕ) (steps : List Step) (values : List Value) (indices decisions : List ℕ) (lists : List (List Watcher)) (pairs : List Pair) (qhead : ℕ) (l : Lit) (place : ℕ) (w : Watcher) (other found : Lit) (saved : ℕ) (c : List Lit)
+pub visit-exchange : (clauses : List (List Lit)) (n : ℕ) (steps : List Step) (values : List Value) (indices decisions : List ℕ) (lists : List (List Watcher)) (pairs : List Copied) (qhead : ℕ) (l : Lit) (place : ℕ) (w : Watcher) (other found : Lit) (saved : ℕ) (c : List Lit)
     → AreSteps clauses n steps values indices decisions → KeepWatches clauses n steps lists pairs qhead → IsFalsifiedAt steps qhead l → IsLitOf n l → IsVisit clauses n lists pairs l place w → IsOther clauses n pairs l w.clause other
     → c ≡ get_or clauses w.clause [] → Contains c found → (found ≢ other) → (IsFalse (assignment_of values) found → ⊥)
     → IsExchange clauses steps lists pairs l place w.clause (record { a = other; b = found; saved = saved })
@@ -202,18 +202,18 @@ both-of c a b two (i, in-i, is-a) (j, in-j, is-b) differ k d few =
     ]
 
 -- **a new clause is attached**
-pub attached : (clauses : List (List Lit)) (n : ℕ) (steps : List Step) (values : List Value) (indices decisions : List ℕ) (lists lists' : List (List Watcher)) (pairs pairs' : List Pair) (qhead qhead' : ℕ) (c : List Lit) (p : Pair) (binary : Bool)
+pub attached : (clauses : List (List Lit)) (n : ℕ) (steps : List Step) (values : List Value) (indices decisions : List ℕ) (lists lists' : List (List Watcher)) (pairs pairs' : List Copied) (qhead qhead' : ℕ) (c : List Lit) (p : Pair) (binary : Bool)
     → AreSteps clauses n steps values indices decisions → AreOver n clauses → AreClosedBefore clauses steps → KeepWatches clauses n steps lists pairs qhead
     → length pairs < length clauses → IsOpenClause (assignment_of values) (get_or clauses (length pairs) []) → c ≡ get_or clauses (length pairs) [] → IsChosen steps c p
-    → (p.a ≡ p.b → lists' ≡ lists) → (p.a ≢ p.b → lists' ≡ with_pair lists (length pairs) p binary) → pairs' ≡ pairs ++ p ∷ [] → qhead' ≡ qhead
+    → (p.a ≡ p.b → lists' ≡ lists) → (p.a ≢ p.b → lists' ≡ with_pair lists (length pairs) p binary) → pairs' ≡ pairs ++ record { pair = p; lits = c } ∷ [] → qhead' ≡ qhead
     → (IsTrue binary → length c ≡ 2) → KeepWatches clauses n steps lists' pairs' qhead'
 attached clauses n steps values indices decisions lists lists' pairs pairs' qhead qhead' c p binary s over before h more opens is chosen one two is-pairs is-head short =
     let clause = get_or clauses (length pairs) [] in
     let chosen' = subst (λ (x : List Lit). IsChosen steps x p) is chosen in
     let exist = over (length pairs) [] more in
     let open' = open-agrees (assignment_of values) (trail_values steps) clause (agree clauses n steps values indices decisions clause s exist) opens in
-    subst (λ (ps : List Pair). KeepWatches clauses n steps lists' ps qhead') (sym is-pairs)
-    (subst (λ (k : ℕ). KeepWatches clauses n steps lists' (pairs ++ p ∷ []) k) (sym is-head)
+    subst (λ (ps : List Copied). KeepWatches clauses n steps lists' ps qhead') (sym (is-pairs ∙ ap (λ (x : List Lit). pairs ++ record { pair = p; lits = x } ∷ []) is))
+    (subst (λ (k : ℕ). KeepWatches clauses n steps lists' (with_copied clauses pairs p) k) (sym is-head)
     (kept-added clauses n steps lists lists' pairs qhead p binary h more chosen' before open'
     (list-within n (length lists) p.a (All-contains (IsLitOf n) clause p.a exist chosen'.has_a) h.count)
     (list-within n (length lists) p.b (All-contains (IsLitOf n) clause p.b exist chosen'.has_b) h.count) one two

@@ -10,7 +10,7 @@ use Rattle.cnf_core.specs.Formula.{IsLitOf, negated}
 use Rattle.cnf_core.specs.Values.{IsOpenClause, IsClosed}
 use Rattle.sat_core.specs.declared.trail.Step.{Step}
 use Rattle.sat_core.specs.declared.watches.Watcher.{Watcher}
-use Rattle.sat_core.specs.declared.watches.Pair.{Pair}
+use Rattle.sat_core.specs.Copies.{Copied}
 use Rattle.sat_core.specs.Steps.{trail_values, IsTrail, Propagates}
 use Rattle.sat_core.specs.Watches.{no_watcher, list_of, watchers, pair_at, StandsFrom, IsRemoved, IsWatcher, IsTrueClause, NeedsNoVisit, KeepsWatch, KeepWatches, ArePassedIn, IsFalsifiedAt}
 use Rattle.sat_core.proofs.Quiet.{grows-whole, grows-push, quiet-weaker, quiet-open, false-cases, lit-same, false-next}
@@ -65,14 +65,16 @@ removed xs ys p few fewer last other =
     }
 
 -- **one step more**: by a clause, or a decision where all steps were visited
-pub kept-push : (clauses : List (List Lit)) (n : ℕ) (steps : List Step) (lists : List (List Watcher)) (pairs : List Pair) (qhead : ℕ) (step : Step)
+pub kept-push : (clauses : List (List Lit)) (n : ℕ) (steps : List Step) (lists : List (List Watcher)) (pairs : List Copied) (qhead : ℕ) (step : Step)
     → (step.reason ≡ None → qhead ≡ length steps) → KeepWatches clauses n steps lists pairs qhead → KeepWatches clauses n (steps ++ step ∷ []) lists pairs qhead
 kept-push clauses n steps lists pairs qhead step decides h =
     let long = length_push steps step in
     let low = h.within in
     record {
       count = h.count;
+      few = h.few;
       attached = h.attached;
+      copies = h.copies;
       within = omega arith;
       right = h.right;
       kept = λ id few.
@@ -99,7 +101,7 @@ kept-push clauses n steps lists pairs qhead step decides h =
           });
     }
 
-pub passed-push : (clauses : List (List Lit)) (steps : List Step) (lists : List (List Watcher)) (pairs : List Pair) (qhead list place : ℕ) (step : Step)
+pub passed-push : (clauses : List (List Lit)) (steps : List Step) (lists : List (List Watcher)) (pairs : List Copied) (qhead list place : ℕ) (step : Step)
     → qhead < length steps → ArePassedIn clauses steps lists pairs qhead list place → ArePassedIn clauses (steps ++ step ∷ []) lists pairs qhead list place
 passed-push clauses steps lists pairs qhead list place step within h id few =
     let c = get_or clauses id [] in
@@ -112,7 +114,7 @@ passed-push clauses steps lists pairs qhead list place step within h id few =
     ]
 
 -- steps by clauses
-pub kept-propagated : (clauses : List (List Lit)) (n : ℕ) (old new : List Step) (lists : List (List Watcher)) (pairs : List Pair) (qhead : ℕ)
+pub kept-propagated : (clauses : List (List Lit)) (n : ℕ) (old new : List Step) (lists : List (List Watcher)) (pairs : List Copied) (qhead : ℕ)
     → Propagates old new → KeepWatches clauses n old lists pairs qhead → KeepWatches clauses n new lists pairs qhead
 kept-propagated clauses n old new lists pairs qhead (added, is, forced) h =
     subst (λ (ss : List Step). KeepWatches clauses n ss lists pairs qhead) (sym is) (over old added forced h)
@@ -142,14 +144,16 @@ falsified-later old new qhead l (added, is, forced) h =
     })
 
 -- **steps taken back to a decision**
-pub kept-backtrack : (clauses : List (List Lit)) (n : ℕ) (steps new : List Step) (lists : List (List Watcher)) (pairs : List Pair) (qhead count : ℕ)
+pub kept-backtrack : (clauses : List (List Lit)) (n : ℕ) (steps new : List Step) (lists : List (List Watcher)) (pairs : List Copied) (qhead count : ℕ)
     → new ≡ take count steps → ((d : Step) → count < length steps → (get_or steps count d).reason ≡ None)
     → KeepWatches clauses n steps lists pairs qhead → KeepWatches clauses n new lists pairs (min qhead (length new))
 kept-backtrack clauses n steps new lists pairs qhead count is decides h =
     subst (λ (ss : List Step). KeepWatches clauses n ss lists pairs (min qhead (length ss))) (sym is)
     (record {
       count = h.count;
+      few = h.few;
       attached = h.attached;
+      copies = h.copies;
       within = omega arith;
       right = h.right;
       kept = λ id few.
@@ -184,14 +188,16 @@ kept-backtrack clauses n steps new lists pairs qhead count is decides h =
         (subst (λ (k : ℕ). NeedsNoVisit (trail_values (take k steps)) (trail_values steps) (get_or clauses id []) (pair_at pairs id)) (sym m) o.visited)
 
 -- **more clauses**
-pub kept-more : (clauses more : List (List Lit)) (n : ℕ) (steps : List Step) (lists : List (List Watcher)) (pairs : List Pair) (qhead : ℕ)
+pub kept-more : (clauses more : List (List Lit)) (n : ℕ) (steps : List Step) (lists : List (List Watcher)) (pairs : List Copied) (qhead : ℕ)
     → KeepWatches clauses n steps lists pairs qhead → KeepWatches (clauses ++ more) n steps lists pairs qhead
 kept-more clauses more n steps lists pairs qhead h =
     let long = length-append clauses more in
     let few' = h.attached in
     record {
       count = h.count;
+      few = h.few;
       attached = omega arith;
+      copies = λ id few. h.copies id few ∙ sym (get_or_append_left clauses more [] id (omega arith));
       within = h.within;
       right = λ k. All-weaker (IsWatcher clauses pairs k) (IsWatcher (clauses ++ more) pairs k) (λ w r.
           (let e = r.exists in
@@ -206,7 +212,7 @@ kept-more clauses more n steps lists pairs qhead h =
     }
 
 -- **where all was visited the clauses are closed**
-pub kept-closed : (clauses : List (List Lit)) (n : ℕ) (steps : List Step) (lists : List (List Watcher)) (pairs : List Pair) (qhead : ℕ)
+pub kept-closed : (clauses : List (List Lit)) (n : ℕ) (steps : List Step) (lists : List (List Watcher)) (pairs : List Copied) (qhead : ℕ)
     → KeepWatches clauses n steps lists pairs qhead → length pairs ≡ length clauses → qhead ≡ length steps → IsClosed (trail_values steps) clauses
 kept-closed clauses n steps lists pairs qhead h all end k d few =
     let o = h.kept k (omega arith) in
@@ -216,7 +222,7 @@ kept-closed clauses n steps lists pairs qhead h all end k d few =
     subst (IsOpenClause (trail_values steps)) (get_or_default clauses k [] d few) (quiet-open (trail_values steps) c p o.has_a o.has_b quiet)
 
 -- **at the first place of a list**: only the clauses that watch the literal may not be quiet
-pub passed-start : (clauses : List (List Lit)) (n : ℕ) (steps : List Step) (lists : List (List Watcher)) (pairs : List Pair) (qhead : ℕ) (l : Lit)
+pub passed-start : (clauses : List (List Lit)) (n : ℕ) (steps : List Step) (lists : List (List Watcher)) (pairs : List Copied) (qhead : ℕ) (l : Lit)
     → IsTrail clauses steps → IsFalsifiedAt steps qhead l → KeepWatches clauses n steps lists pairs qhead → ArePassedIn clauses steps lists pairs qhead (list_of l) 0
 passed-start clauses n steps lists pairs qhead l trail at h id few =
     let o = h.kept id few in
@@ -236,7 +242,7 @@ passed-start clauses n steps lists pairs qhead l trail at h id few =
     ]
 
 -- a place further, where the clause there is true
-pub passed-next : (clauses : List (List Lit)) (steps : List Step) (lists : List (List Watcher)) (pairs : List Pair) (qhead list place : ℕ)
+pub passed-next : (clauses : List (List Lit)) (steps : List Step) (lists : List (List Watcher)) (pairs : List Copied) (qhead list place : ℕ)
     → IsTrueClause (trail_values steps) (get_or clauses (get_or (watchers lists list) place no_watcher).clause [])
     → ArePassedIn clauses steps lists pairs qhead list place → ArePassedIn clauses steps lists pairs qhead list (place + 1)
 passed-next clauses steps lists pairs qhead list place holds h id few =
@@ -253,13 +259,15 @@ passed-next clauses steps lists pairs qhead list place holds h id few =
     ]
 
 -- **past the last place of a list** the step at the head was visited
-pub kept-next : (clauses : List (List Lit)) (n : ℕ) (steps : List Step) (lists : List (List Watcher)) (pairs : List Pair) (qhead list place : ℕ)
+pub kept-next : (clauses : List (List Lit)) (n : ℕ) (steps : List Step) (lists : List (List Watcher)) (pairs : List Copied) (qhead list place : ℕ)
     → qhead < length steps → length (watchers lists list) ≤ place → ArePassedIn clauses steps lists pairs qhead list place → KeepWatches clauses n steps lists pairs qhead
     → KeepWatches clauses n steps lists pairs (qhead + 1)
 kept-next clauses n steps lists pairs qhead list place within end passed h =
     record {
       count = h.count;
+      few = h.few;
       attached = h.attached;
+      copies = h.copies;
       within = omega arith;
       right = h.right;
       kept = λ id few.

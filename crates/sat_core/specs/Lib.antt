@@ -1,4 +1,5 @@
 pub mod Conflicts
+pub mod Copies
 pub mod FalseClauses
 pub mod Notes
 pub mod Picks

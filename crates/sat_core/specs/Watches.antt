@@ -1,6 +1,6 @@
 -- Two watched literals of each clause, and what propagation keeps of them: the field's invariant (Moskewicz and others,
 -- Chaff, 2001), in this project's own form; no public clause cites it.
-use Rattle.std.specs.Prelude.{◌≡◌, ◌≢◌, ℕ, ◌+◌, ◌-◌, ◌*◌, ◌<◌, ◌≤◌, ◌⊎◌, ◌↔◌, Bool, false, IsTrue, if◌then◌else◌, List, [], ◌∷◌, ◌++◌, length, take, Option, Some, None, MatchOption, slice_set}
+use Rattle.std.specs.Prelude.{◌≡◌, ◌≢◌, ℕ, ◌+◌, ◌-◌, ◌*◌, ◌^◌, ◌<◌, ◌≤◌, ◌⊎◌, ◌↔◌, ◌==◌, Bool, false, IsTrue, if◌then◌else◌, List, [], ◌∷◌, ◌++◌, length, take, Option, Some, None, MatchOption, slice_set}
 use Rattle.std.specs.List.{slice_index_or, All, AllWithin, Contains}
 use Rattle.cnf_core.specs.declared.literal.Lit.{Lit}
 use Rattle.cnf_core.specs.Formula.{negated}
@@ -9,6 +9,7 @@ use Rattle.sat_core.specs.declared.trail.Step.{Step}
 use Rattle.sat_core.specs.declared.watches.Watcher.{Watcher}
 use Rattle.sat_core.specs.declared.watches.Pair.{Pair}
 use Rattle.sat_core.specs.declared.watches.Watches.{Watches}
+use Rattle.sat_core.specs.Copies.{Copied}
 use Rattle.sat_core.specs.declared.propagation.Visit.{Visit}
 use Rattle.sat_core.specs.declared.propagation.Visit.TheVariants.{Stays, Moved, Falsified}
 use Rattle.sat_core.specs.FalseClauses.{IsFalsified}
@@ -32,9 +33,21 @@ list_of l = 2 * (l.var - 1) + (if l.positive then 1 else 0)
 abbrev pub watchers : List (List Watcher) → ℕ → List Watcher
 watchers lists k = slice_index_or lists k []
 
+-- what stands past the end of a table
+abbrev pub no_copied : Copied
+no_copied = record { pair = no_pair; lits = [] }
+
 -- the watched literals of the clause at a place
-abbrev pub pair_at : List Pair → ℕ → Pair
-pair_at pairs id = slice_index_or pairs id no_pair
+abbrev pub pair_at : List Copied → ℕ → Pair
+pair_at pairs id = (slice_index_or pairs id no_copied).pair
+
+-- and the copy of all
+abbrev pub lits_at : List Copied → ℕ → List Lit
+lits_at pairs id = (slice_index_or pairs id no_copied).lits
+
+-- the clauses with other watched literals of the one at a place
+abbrev pub exchanged : List Copied → ℕ → Pair → List Copied
+exchanged pairs id p = slice_set pairs id (record { pair = p; lits = lits_at pairs id })
 
 -- the clause stands in a list, at a place from this one on
 abbrev pub StandsFrom : ℕ → List Watcher → ℕ → Type 0
@@ -68,7 +81,7 @@ pub record IsMoved (list place clause : ℕ) (pair : Pair) (old new : Watches) :
   pub removed : IsRemoved (watchers old.lists.items list) place rest
   pub lists : new.lists.items ≡ with_watcher (slice_set old.lists.items list rest) (list_of pair.b)
       (record { clause = clause; blocker = pair.a; binary = false })
-  pub pairs : new.pairs.items ≡ slice_set old.pairs.items clause pair
+  pub pairs : new.pairs.items ≡ exchanged old.pairs.items clause pair
   pub qhead : new.qhead ≡ old.qhead
 
 -- what the lists hold of a new clause: nothing, or each of its two watched literals, blocked by the other
@@ -78,15 +91,16 @@ with_pair lists id p binary =
     (list_of p.b) (record { clause = id; blocker = p.a; binary = binary })
 
 -- a clause was added at the end, with its watched literals
-pub record IsAdded (pair : Pair) (binary : Bool) (old new : Watches) : Type 0 where
+pub record IsAdded (lits : List Lit) (pair : Pair) (old new : Watches) : Type 0 where
   pub one : pair.a ≡ pair.b → new.lists.items ≡ old.lists.items
-  pub two : pair.a ≢ pair.b → new.lists.items ≡ with_pair old.lists.items (length old.pairs.items) pair binary
-  pub pairs : new.pairs.items ≡ old.pairs.items ++ pair ∷ []
+  pub two : pair.a ≢ pair.b → new.lists.items ≡ with_pair old.lists.items (length old.pairs.items) pair
+      (length lits == 2)
+  pub pairs : new.pairs.items ≡ old.pairs.items ++ record { pair = pair; lits = lits } ∷ []
   pub qhead : new.qhead ≡ old.qhead
 
 -- a watcher in the list at a place: its clause was visited and has two watched literals, and the blocker is one of its
 -- literals; where it is binary, each other one is of this list
-pub record IsWatcher (clauses : List (List Lit)) (pairs : List Pair) (list : ℕ) (w : Watcher) : Type 0 where
+pub record IsWatcher (clauses : List (List Lit)) (pairs : List Copied) (list : ℕ) (w : Watcher) : Type 0 where
   pub exists : w.clause < length pairs
   pub has_blocker : Contains (slice_index_or clauses w.clause []) w.blocker
   pub differ : (pair_at pairs w.clause).a ≢ (pair_at pairs w.clause).b
@@ -115,9 +129,11 @@ pub record KeepsWatch (steps : List Step) (lists : List (List Watcher)) (qhead i
 
 -- what the lists and pairs keep: steps taken back to a decision leave it, with the head not past the end
 pub record KeepWatches (clauses : List (List Lit)) (n : ℕ) (steps : List Step) (lists : List (List Watcher))
-    (pairs : List Pair) (qhead : ℕ) : Type 0 where
+    (pairs : List Copied) (qhead : ℕ) : Type 0 where
+  pub few : n < 2 ^ 31
   pub count : length lists ≡ 2 * n
   pub attached : length pairs ≤ length clauses
+  pub copies : (id : ℕ) → id < length pairs → lits_at pairs id ≡ slice_index_or clauses id []
   pub within : qhead ≤ length steps
   pub right : (k : ℕ) → All (IsWatcher clauses pairs k) (watchers lists k)
   pub kept : (id : ℕ) → id < length pairs
@@ -127,7 +143,7 @@ abbrev pub AreWatched : List (List Lit) → ℕ → List Step → Watches → Ty
 AreWatched clauses n steps w = KeepWatches clauses n steps w.lists.items w.pairs.items w.qhead
 
 -- each clause needs no visit, the step at the head included, or it is in the list from a place on
-abbrev pub ArePassedIn : List (List Lit) → List Step → List (List Watcher) → List Pair → ℕ → ℕ → ℕ → Type 0
+abbrev pub ArePassedIn : List (List Lit) → List Step → List (List Watcher) → List Copied → ℕ → ℕ → ℕ → Type 0
 ArePassedIn clauses steps lists pairs qhead list place =
     (id : ℕ) → id < length pairs
     → NeedsNoVisit (trail_values (take (qhead + 1) steps)) (trail_values steps)

@@ -9,7 +9,7 @@ ghost use Rattle.sat_core.specs.Watches.{list_of, watchers, AreWatched, ArePasse
 
 use crate::choice::watched_pair;
 use crate::trail::{Step, Trail};
-use crate::watches::{Pair, Watches, list_place};
+use crate::watches::{Packed, Pair, Watches, list_place};
 use cnf_core::{ClauseStatus, Clauses, Lit, status_of};
 use items::NoMemory;
 
@@ -123,7 +123,7 @@ fn attach(clauses: &Clauses, trail: &Trail, watches: &mut Watches) -> Result<(),
 {
     let clause = clauses.get(watches.pairs.len());
     let pair = watched_pair(clause, trail);
-    watches.add(pair, clause.len() == 2)?;
+    watches.add(clause, pair)?;
     Ok(())
 }
 
@@ -191,16 +191,16 @@ fn visit_watcher(
     if watcher.binary {
         return settle(clauses, trail, watcher.clause, watcher.blocker);
     }
-    let old = watches.pairs[watcher.clause as usize];
+    let old = watches.pairs.pair(watcher.clause as usize);
     let other = other_than(old, lit);
     if trail.is_true(other) {
         watches.renew(list, place, other);
         return Ok(Visit::Stays);
     }
-    let clause = clauses.get(watcher.clause as usize);
+    let clause = watches.pairs.lits(watcher.clause as usize);
     match replacement(clause, other, trail, old.saved) {
         Some(at) => {
-            let found = clause[at];
+            let found = clause[at].lit();
             let pair = Pair {
                 a: other,
                 b: found,
@@ -248,7 +248,7 @@ fn other_than(pair: Pair, lit: Lit) -> Lit
 
 /// The place of a literal of the clause that isn't false, other than this one: the first from a place on, or else the
 /// first before it.
-fn replacement(clause: &[Lit], other: Lit, trail: &Trail, saved: usize) -> Option<usize>
+fn replacement(clause: &[Packed], other: Lit, trail: &Trail, saved: usize) -> Option<usize>
     requires exist { All (IsLitOf (var_count trail.now)) clause.now }
     ensures { MatchOption result (All (IsPassedOver (assignment_of trail.now.values.items) other) clause.now)
         (IsNextReplacement (assignment_of trail.now.values.items) clause.now other saved) }
@@ -262,7 +262,7 @@ fn replacement(clause: &[Lit], other: Lit, trail: &Trail, saved: usize) -> Optio
 
 /// The first place of such a literal between two places.
 fn first_between(
-    clause: &[Lit],
+    clause: &[Packed],
     other: Lit,
     trail: &Trail,
     start: usize,
@@ -275,7 +275,8 @@ fn first_between(
         (IsFirstWithin (assignment_of trail.now.values.items) clause.now other start end) }
 {
     for at in start..end {
-        if clause[at] != other && !trail.is_false(clause[at]) {
+        let lit = clause[at].lit();
+        if lit != other && !trail.is_false(lit) {
             return Some(at);
         }
     }
