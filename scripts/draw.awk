@@ -1,16 +1,7 @@
 # Draws an answer, whole or in parts, for ./draw:
-#     awk -v form=text|svg|graph|html -v room=FOLDER -f draw.awk ANSWER
+#     awk -v form=text|svg|graph|html -v room=FOLDER -f order.awk -f draw.awk ANSWER
 # Of html, the folder has files of goal N, where they could be made: N.check, what `check` says of it; N.seconds, how long
 # that took; and N.svg, its graph as Graphviz draws it. `version` is the version of the scripts.
-
-# The place of a launch among those of its cycle, as words stand: operates and plain loads, the branch, held loads,
-# the store, and what overwrites an input.
-function group(row, pin) {
-    if (pin != "" && (pin in taken)) return 4
-    if (row == rows) return 1
-    if (op[row] ~ /^(store|st[bwl]|put[bwl]?)$/) return 3
-    return op[row] ~ /^(select|ld(bu|wu|l)|load(bu|wu|l)?)$/ && held ? 2 : 0
-}
 
 # The registers that a word reads, and in `made` the one that it writes, or none.
 function registers(text,    parts, count, i, read, regs) {
@@ -43,13 +34,6 @@ function draw_linked(    i) {
     print "linked: " plural(linked, "word") "\n"
     for (i = 0; i < linked_words; i++) printf "%5d  %-12s  %s\n", 4 * i, i in label ? label[i] : "", linked_text[i]
     printf "%5d  done\n\n", 4 * linked_words
-}
-
-# The launches in the order of their words.
-function sort_launches(    i, j, t) {
-    for (i = 1; i <= launches; i++) order[i] = i
-    for (i = 2; i <= launches; i++)
-        for (j = i; j > 1 && key[order[j]] < key[order[j - 1]]; j--) { t = order[j]; order[j] = order[j - 1]; order[j - 1] = t }
 }
 
 function draw_text(    c, s, i, width, cell) {
@@ -219,6 +203,7 @@ function outcome_line(    part) {
 function add_section(    checked, seconds, graph) {
     checked = file_of(goals ".check")
     seconds = file_of(goals ".seconds")
+    sub(/\n/, "", seconds)
     graph = file_of(goals ".svg")
     row = row "<tr><td><a href=\"#goal" goals "\">" escaped(name) "</a></td><td>" (cycles == "" ? outcome_line() : cycles) "</td><td>" (cycles == "" ? "" : words) "</td><td>" seconds "</td></tr>\n"
     section = section "<section id=\"goal" goals "\">\n<h2>" escaped(name) "</h2>\n"
@@ -227,7 +212,7 @@ function add_section(    checked, seconds, graph) {
         sort_launches()
         body = ""; down = across = 0
         draw_svg()
-        section = section cycle_table() "<h3>Picture</h3>\n<div class=\"wide\">" sprintf("<svg class=\"picture\" viewBox=\"0 0 " across " " down "\" width=\"%d\" height=\"%d\" role=\"img\" aria-label=\"the schedule of %s\" font-family=\"monospace\" font-size=\"13\">\n", across, down, escaped(name)) body "</svg></div>\n"
+        section = section cycle_table() "<h3>Picture</h3>\n<div class=\"wide\">" sprintf("<svg class=\"picture\" style=\"min-width:" int(across * 0.75) "px\" viewBox=\"0 0 " across " " down "\" width=\"%d\" height=\"%d\" role=\"img\" aria-label=\"the schedule of %s\" font-family=\"monospace\" font-size=\"13\">\n", across, down, escaped(name)) body "</svg></div>\n"
         section = section "<h3>Words</h3>\n" (words ? word_table() : "<p>No words are needed.</p>\n") register_lines()
     }
     section = section "<h3>Evidence</h3>\n" evidence_line()

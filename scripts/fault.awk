@@ -183,6 +183,7 @@ function tokens(line, from,    at, piece, long, i) {
 function byte_message(    sign) {
     if (byte == "") return "the text ends here"
     if (byte == 13) return "a carriage return can't stand here: lines end with a line feed alone, as after tr -d '\\r'"
+    if (byte == 127 && place == 0) return "the byte 0x7F can't stand here: this is an object file, which ./improve-object takes"
     if (byte + 0 < 32 || byte + 0 > 126) {
         if (is_lines && byte == 9) return "a tab can't stand here: one space separates words"
         return sprintf("the byte 0x%02X can't stand here: %s", byte, is_lines ? "lines are of printable ASCII" : "outside comments a text is of ASCII")

@@ -50,7 +50,7 @@ is_answer() && $1 == "none" { outcome = "none"; cycles_of = $2 }
 is_answer() && $1 == "spent" { outcome = $2; cycles_of = $3 }
 is_answer() && $1 == "word" { words++ }
 is_answer() && $1 == "end" { solved_notes(); if (outcome == "scheduled") scheduled[++schedules] = name }
-is_answer() && $1 == "least" { if (terminal) print scheduled[++tails] ": no schedule in as many cycles has fewer than " plural($2, "word"); else tails++ }
+is_answer() && $1 == "least" { tails++; if (terminal) print scheduled[tails] ": no schedule in as many cycles has fewer than " plural($2, "word") }
 is_answer() && $1 == "most" {
     name = scheduled[++tails]
     say("whether fewer than " plural($2, "word") " suffice isn't known" ($3 == "spent" ? ": raise " higher("--conflicts", conflicts, 1000000) : ""))
