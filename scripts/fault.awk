@@ -1,7 +1,8 @@
 # Tells a fault as compilers do: the file, its line and column, what is wrong and what is wanted there, the line, and a
 # caret under the place.
-#     awk -f near.awk -f fault.awk -v place=BYTE -v kind=KIND -v file=NAME -v reads=WHAT -v byte=NUMBER TEXT
-# WHAT is what the command reads, as the table of commands says it; NUMBER the byte at the place, or nothing at the end.
+#     awk -f near.awk -f fault.awk -v place=BYTE -v kind=KIND -v reads=WHAT -v byte=NUMBER -v size=BYTES TEXT
+# WHAT is what the command reads, as the table of commands says it; NUMBER the byte at the place, or nothing at the end;
+# BYTES the length of the text. FAULT_FILE of the environment names the file.
 # Words are bytes: it is run with LC_ALL=C. The text is read up to the end of the list at the place, not further.
 
 function shown(text) { return length(text) > 40 ? substr(text, 1, 37) "..." : text }
@@ -76,7 +77,7 @@ function line_column(at,    i) {
 function note_name(at, text,    head_of) {
     head_of = head[depth]
     if (head_of ~ /^(in|let|op|var|block|set|goal|lift|at)$/ && element[depth] == 1) {
-        if (head_of == "goal" || head_of == "code" || head_of == "lift" || head_of == "proc") { here = ""; forget("name") }
+        if (head_of == "goal" || head_of == "code" || head_of == "lift" || head_of == "proc") { here = ""; forget_names() }
         if (head_of == "op") { declared = declared " " text; declared_place[text] = at }
         else if (head_of == "goal" || head_of == "lift") { goals = goals " " text; if (!(text in goal_place)) goal_place[text] = at }
         else {
@@ -89,13 +90,13 @@ function note_name(at, text,    head_of) {
     if (text ~ /^\$/ && head_of ~ /^(in|pool|var|out|set)$/) {
         if (!((head_of == "out" ? "out" : "register", text) in name_place)) name_place[head_of == "out" ? "out" : "register", text] = at
     }
-    if (head_of == "op" && element[depth] == 2) { split(declared, part_of, " "); arity[last_name] = text + 0 }
+    if (head_of == "op" && element[depth] == 2) arity[last_name] = text + 0
     last_name = text
 }
 
 function kind_of(head_of) { return head_of ~ /^(in|let|var)$/ ? "term" : head_of }
 
-function forget(ignored,    at) {
+function forget_names(    at) {
     for (at in name_place) delete name_place[at]
     sets = ""
 }
@@ -114,12 +115,10 @@ function token(at, text,    i) {
         found_open = depth ? open_at[depth] : -1
         found_at = at
         found_top = depth ? head[1] : ""
-        if (text != "(") { note_atom_found = text; if (text == ")") return 1 }
+        if (text == ")") return 1
     }
     if (text == "(") {
         if (depth) element[depth]++
-        if (found && depth == found_depth) inner_lists++
-        # A list that only a goal or a proc has, inside another: the one around it isn't closed.
         depth++
         head[depth] = ""; element[depth] = -1; open_at[depth] = at; last_head[depth] = ""
         return 0
@@ -136,13 +135,13 @@ function token(at, text,    i) {
     if (element[depth] == 0) {
         head[depth] = text
         if (found && found_text == "(" && depth == found_depth && open_at[depth] == found_at) found_head = text
+        # A list that only a goal or the like has, inside another: the one around it isn't closed.
         if (depth > 1 && !misplaced && text ~ /^(in|pool|let|assume|set|goal|axiom|op|when|var|block|go|code|lift)$/ && !belongs(text, head[depth - 1])) {
             misplaced = line_column(open_at[depth]); misplaced_head = text
             misplaced_in = head[depth - 1]; misplaced_around = line_column(open_at[depth - 1])
         }
         return 0
     }
-    if (found && found_text == "(" && depth == found_depth && element[depth] == 1) found_first = text
     if (!found) note_name(at, text)
     return found && found_text != "(" && depth == found_depth
 }
@@ -415,7 +414,7 @@ function show(line, column,    from, caret, i) {
     print caret "^"
 }
 
-BEGIN { set_up(); is_lines = reads == "an answer" || reads == "a program"; offset = 0; row_of = 0; stopped = 0 }
+BEGIN { file = ENVIRON["FAULT_FILE"]; set_up(); is_lines = reads == "an answer" || reads == "a program"; offset = 0; row_of = 0 }
 {
     begins[NR] = offset
     if (NR > 3 && is_lines) delete begins[NR - 3]
@@ -428,7 +427,7 @@ BEGIN { set_up(); is_lines = reads == "an answer" || reads == "a program"; offse
 END {
     if (kind == "TooLong") { print file ": " message(); exit }
     if (!row_of) { row_of = NR + 1; at_line = ""; at_begin = offset; line_found = 0 }
-    unended = ends == 1 && place >= at_begin && total > size
+    unended = place >= at_begin && total > size
     print file ":" row_of ":" place - at_begin + 1 ": " message()
     show(at_line, place - at_begin + 1)
 }
