@@ -219,9 +219,12 @@ function merge(asked, first, last,    part, count, i, name, result) {
 }
 
 # The values of a command's options, with the defaults: -v rounds=4 and so on.
-function values(name, first, last,    i, now, result) {
+function values(name, first, last,    i, asked, now, result) {
     for (i = 1; i <= options; i++) if (has(name, option[i])) now[option[i]] = default_for(name, option[i])
-    for (i = first; i <= last; i++) now[ARGV[i]] = value[ARGV[i]] == "-" ? "on" : ARGV[++i]
+    for (i = first; i <= last; i++) {
+        asked = ARGV[i]
+        now[asked] = value[asked] == "-" ? "on" : ARGV[++i]
+    }
     for (i = 1; i <= options; i++) if (option[i] in now) result = result " -v " substr(option[i], 3) "=" now[option[i]]
     return result
 }
