@@ -36,6 +36,12 @@ function set_up(    i, count, part) {
     for (i = 1; i < count; i += 2) other_name[part[i]] = part[i + 1]
     count = split("+ addq - subq * mulq & and | bis ^ xor ~ not < cmplt > cmplt = cmpeq ! not", part, " ")
     for (i = 1; i < count; i += 2) sign_name[part[i]] = part[i + 1]
+    split("select ldbu ldwu ldl", part, " ")
+    for (i = 1; i <= 4; i++) operand_form[part[i]] = "M ADDRESS"
+    split("store stb stw stl", part, " ")
+    for (i = 1; i <= 4; i++) operand_form[part[i]] = "M ADDRESS WORD"
+    operand_form["selectb"] = "WORD INDEX"
+    operand_form["storeb"] = "WORD INDEX BYTE"
     form["goal"] = "(goal NAME .. (set NAME TERM))"
     form["op"] = "(op NAME COUNT), with 1 to 4 operands"
     form["axiom"] = "(axiom (NAME ..) TERM TERM)"
@@ -316,6 +322,11 @@ function sort_message(    wants_memory) {
     return quoted_place() " is a memory, and a word is wanted" (found_text == "M" ? ": (select M A) is the word of M at the address A" : "")
 }
 
+function arity_message() {
+    return named(found_head) " takes " (found_head in arity ? plural(arity[found_head], "operand") : "another count of operands") \
+        ", and " (found_count == 1 ? "1 is" : found_count " are") " given" (found_head in operand_form ? ": (" found_head " " operand_form[found_head] ")" : "")
+}
+
 function limit_message() {
     if (is_lines) return "too many: a program has at most 4096 words and 4096 places"
     if (parent == "op" && index_at == 2) return quoted_place() " is no count of operands: an operator has 1 to 4"
@@ -381,7 +392,7 @@ function message() {
     if (kind == "BadForm") return form_message()
     if (kind == "UnknownName") return unknown_message()
     if (kind == "Twice") return twice_message()
-    if (kind == "WrongArity") return named(found_head) " takes " (found_head in arity ? plural(arity[found_head], "operand") : "another count of operands") ", and " (found_count == 1 ? "1 is" : found_count " are") " given"
+    if (kind == "WrongArity") return arity_message()
     if (kind == "WrongSort") return sort_message()
     if (kind == "BadRegister") return named(found_text) (parent == "at" && found_text ~ /^\$[0-9]$|^\$[12][0-9]$|^\$30$/ ? " isn't the register that the goal's set names" : " can't be used: registers are $0 to $30")
     if (kind == "BadAxiom") return found_text != "(" && parent != "axiom" ? named(found_text) " doesn't stand on the axiom's left side, which has to have each variable of the right side" : index_at == 2 ? quoted_place() " can't be the left side of an axiom: it is an application, (OPERATOR TERM ..)" : "the left side of an axiom is an application, and has each variable of its right side"
