@@ -20,7 +20,7 @@ function solved_notes() {
             "give more registers" joined_rounds())
     else if (outcome == "conflicts")
         say(known() plural(cycles_of, "cycle") " undecided after " plural(conflicts, "conflict") ": raise " \
-            with_library(joined(higher("--conflicts", conflicts, 1000000), "--pick " (pick == "busy" ? "activity" : "busy"))))
+            with_library(joined(higher("--conflicts", conflicts, 1000000), pick == "activity" ? "" : "--pick activity")))
     else if (outcome == "size")
         say(known() "the clauses for " plural(cycles_of, "cycle") " are too many: make the goal smaller, or its graph, by a lower --nodes (" nodes " now)")
     else if (outcome == "noworld")
