@@ -26,4 +26,4 @@ form == "" && /^(word|reg|mem) / { form = "program"; exit }
         if (depth < 0) depth = 0
     }
 }
-END { print form == "" ? "goal" : form }
+END { print (form == "" ? "goal" : form) }

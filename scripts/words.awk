@@ -357,7 +357,7 @@ function completions_zsh(    i, j) {
     for (i = 1; i <= commands; i++) {
         printf "    %s) _arguments $own", command[i]
         for (j = 1; j <= options; j++) if (has(command[i], option[j])) printf " %s", zsh_spec(option[j])
-        print reads[command[i]] == "nothing" ? " ;;" : " '*:file:_files' ;;"
+        print (reads[command[i]] == "nothing" ? " ;;" : " '*:file:_files' ;;")
     }
     printf "    *) _arguments $own"
     for (j = 1; j <= options; j++) printf " %s", zsh_spec(option[j])
