@@ -5,6 +5,10 @@
 //!
 //! Proved: `encode` gives the word of the formats; `decode` reads it back, and gives none exactly where no instruction
 //! has the word; instructions and words are one to one (`words_and_instructions`); `text` is exact.
+//!
+//! What nothing forced, and why:
+//! - `IsWellFormed` of an instruction also holds the ranges that its Rust types give, so that the laws need no other
+//!   premise.
 #![tactic(auto)]
 
 mod codes;

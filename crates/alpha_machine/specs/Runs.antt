@@ -1,5 +1,6 @@
--- What running a list of words is.
--- Source: this project, over the Handbook's steps. The words stand from address 0 on, four bytes each.
+-- What running a list of words is: where n words end, or before which one they trap; and that words run from one state
+-- to another in at most n steps. Source: this project, over the Handbook's steps. The words stand from address 0 on,
+-- four bytes each.
 use Rattle.std.specs.Prelude.{◌≡◌, ℕ, ◌+◌, ◌-◌, ◌*◌, ◌/◌, ◌<◌, zero, suc, pos, List, [], ◌∷◌, length, map, slice_get, Option, Some, None, IsSomeAnd, IsTrue, if◌then◌else◌}
 use Rattle.std.specs.Option.{option_and_then, option_map_or}
 use Rattle.alpha_machine.specs.States.{MachineState}

@@ -1,5 +1,5 @@
--- The state of the machine.
--- Source: Alpha Architecture Handbook, version 4, "Registers": 32 integer registers, of which R31 reads as zero.
+-- The state of the machine: registers, memory and pc. Source: Alpha Architecture Handbook, version 4, "Registers": 32
+-- integer registers, of which R31 reads as zero.
 use Rattle.std.specs.Prelude.{◌≡◌, ℕ, List, All, length, slice_index, refl}
 use Rattle.std.specs.Coded.{Coded, code_by, coded×, coded_ℕ, coded_list}
 use Rattle.std.specs.FinMap.{code}

@@ -1,7 +1,6 @@
--- What one instruction does.
--- Source: Alpha Architecture Handbook, version 4, "Instruction Descriptions": the integer operates, LDA, LDAH, LDBU,
--- LDWU, LDL, LDQ_U, STB, STW, STL, STQ_U, LDQ, STQ and BEQ; and of the data alignment trap, at an address that isn't a
--- multiple of the access's width.
+-- What one instruction does, and when it traps. Source: Alpha Architecture Handbook, version 4, "Instruction
+-- Descriptions": the integer operates, LDA, LDAH, LDBU, LDWU, LDL, LDQ_U, STB, STW, STL, STQ_U, LDQ, STQ and BEQ; and
+-- of the data alignment trap, at an address that isn't a multiple of the access's width.
 use Rattle.std.specs.Prelude.{ℕ, zero, suc, ℤ, ◌+◌, ◌*◌, ◌/◌, ◌%◌, ◌^◌, Bool, true, false, not, ◌&&◌, List, slice_index, set, ◌==◌, if◌then◌else◌, ◌≢◌}
 use Rattle.std.specs.Int.{cast_unsigned, w64}
 use Rattle.word_ops.specs.Memory.{alignment, loaded, stored, word_at}

@@ -11,6 +11,18 @@
 //! lead to, where a word that traps is the last that is looked at. The low 16 bits of a word, as a displacement, give
 //! what `lda` and `ldah` give (`displacements_are_low_bits`); steps add up, and nothing happens past the words or at a
 //! word that traps (`steps_add_up`).
+//!
+//! What nothing forced, and why:
+//! - An allowed branch leads only to the place one word after the last. So each word is executed at most once, and
+//!   `run` is one loop over the words.
+//! - A run that finds no memory for a store is stated as a relation: fewer steps than there are words lead to the
+//!   state, and a store of a word that isn't 0 comes next.
+//! - A run stays where a word traps: a state whose instruction traps is never left, so steps add up as they did, and
+//!   words that come to their end or leave haven't trapped on the way. `LDQ` and `STQ` are instructions of their own
+//!   beside the accesses of terms, since no term has them; no schedule launches them, since an aligned `select` is
+//!   `ldq_u`.
+//! - The fields of `State` are private, so that register 31 always holds 0. That a state holds words and an address
+//!   (`IsState`) is a clause of each call that reads one, so a caller hears it of the state after `step` and `run` too.
 #![tactic(auto)]
 
 mod laws;

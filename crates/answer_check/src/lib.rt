@@ -7,6 +7,12 @@
 //! Proved: `check_goal` gives the verdict on a claim (`verdict`), and where all tests hold the claim is true of the
 //! printed graph (`sound`); a claim has one verdict (`one_verdict`), and lines have one first refusal at most
 //! (`one_first_refusal`). `check_answer` gives the lines of all verdicts, and whether some claim is rejected.
+//!
+//! What nothing forced, and why:
+//! - Where the counts of the clauses that `refute` lines are for pass a limit and the printed counts are wrong too, `no
+//!   NAME size` tells the former: they are tested first.
+//! - `check` builds one formula at a time, and counts all that it will build before the first. It looks for no lemma
+//!   that was known before.
 #![tactic(auto)]
 
 mod checking;

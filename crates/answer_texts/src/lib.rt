@@ -9,6 +9,19 @@
 //! answer that can be printed (`Printable`) is what its text says (`printed_answers_are_read`). Only tables within
 //! the limits and well-formed graphs are read, with the lines that a claim needs and an encoding that goes with the
 //! version (`read_answers_are_well_formed`).
+//!
+//! What nothing forced, and why:
+//! - An answer is read by a grammar of parts (`LineParts`): a part says which lines say which value, and beside it
+//!   stands the first fault of lines that aren't that part. One part after another is one word (`Leads`), so that a
+//!   text says one thing, or has one first fault, is proved once and then for the whole grammar. The format is
+//!   canonical: each line is what its value prints.
+//! - The version of an answer decides two things: how its graphs are read, and which encodings it may name
+//!   (`GoTogether`). Graphs of version 1 have no pins, so there no register stands after a launch, without a rule of
+//!   its own. A claim on no graph, which no text says, prints no launches.
+//! - What a claim has beside it is one type for all kinds (`Claimed`), with no graph and no lines if a goal has no
+//!   world; `IsClaimed` says which combinations are read. `solve` prints by making of each result what is claimed of
+//!   it, so there is one definition of the lines. For that a claim can be lent (`ClaimRef`, `ClaimedRef`).
+//! - `check` speaks of the graph alone, so it has nothing to say of the line `library`.
 #![tactic(auto)]
 
 mod answers;

@@ -11,6 +11,22 @@
 //! rule, and true in every world (`library_equations_are_true`); of the kinds of computed rules `axiom_base` says
 //! that. A family is found by its name (`families_have_names`). That a rule serves a goal, and which family does, is
 //! no clause.
+//!
+//! What nothing forced, and why:
+//! - Rows are rewrites that the built-in equations don't reach, chosen by the cycles of the table `ev6`.
+//! - `sums` differs by the way it is asked for: in a text it is an axiom, by the option a computed rule alone. The
+//!   axiom matches every sum and feeds itself, so graphs fill up; for the same reason `all` leaves out `halves`.
+//! - `lda` and `ldah` can't be written in a text, so the parts of a long constant are made by operators that fold: an
+//!   eighth by `srl`, a rounded half by `s4addq` and `zapnot`. A constant alone is helped by computed rules only, since
+//!   an axiom's left side is an application.
+//! - A swap of bytes is one axiom over the whole term, since the way over single bytes needs more rounds and rows than
+//!   a text has by default.
+//! - Two equations of `unaligned` have a memory as variable, which no axiom of a text may have. So they are rewrites
+//!   beside the axioms, after all of these.
+//! - A library is a struct of thirteen flags, so the order and number of its words can't matter; a list of families
+//!   would need an invariant for that.
+//! - What is asked for twice counts twice: an axiom that stands in the text and in the library is two rules. The graph
+//!   is the same.
 #![tactic(auto)]
 
 mod asked;

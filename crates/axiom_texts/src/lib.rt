@@ -7,6 +7,13 @@
 //! program writes (`words_name_families`). In front of the canonical text of goals alone, what is written makes the
 //! canonical text of these goals with the axioms (`texts_stand_before_goals`). `worked_texts` says what some words ask
 //! for.
+//!
+//! What nothing forced, and why:
+//! - The program is no command of `denali`: it reads nothing, and a change of the library proves nothing of `denali`
+//!   anew. It prints an input that has nothing but these axioms, so what it writes is in the canonical form of a goal
+//!   text.
+//! - Nine of the families are written. Of the other four a text can have only eight rules, of `fields`: in all others
+//!   constants are computed, or variables are memories.
 #![tactic(auto)]
 
 mod asked;

@@ -1,5 +1,4 @@
--- How an answer is made from what the calls below say.
--- Source: this project.
+-- How an answer is made from what the calls below say. No public clause rests on this. Source: this project.
 use Rattle.std.specs.Prelude.{◌≡◌, ℕ, List, length, All, IfSome, Option, Some, None}
 use Rattle.word_terms.specs.Tree.{AreBelow}
 use Rattle.goal_meaning.specs.Expanded.{let_values}

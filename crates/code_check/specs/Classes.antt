@@ -1,5 +1,5 @@
--- Classes that stand beside the terms of registers and memory while the terms of words are inserted.
--- Source: this project.
+-- Classes that stand beside the terms of registers and memory while the terms of words are inserted. No public clause
+-- rests on this. Source: this project.
 use Rattle.std.specs.Prelude.{◌≡◌, ℕ, ◌+◌, ◌<◌, ◌≤◌, List, [], ◌∷◌, length, slice_index_or, Option, Some, None}
 use Rattle.word_ops.specs.Meanings.{sort_of}
 use Rattle.word_ops.specs.declared.sorts.Access.{Access}

@@ -1,5 +1,4 @@
--- What the insertion of a code's terms gives.
--- Source: this project.
+-- What the insertion of a code's terms gives. No public clause rests on this. Source: this project.
 use Rattle.std.specs.Prelude.{ℕ, List, drop}
 use Rattle.word_ops.specs.declared.sorts.Op.{Op}
 use Rattle.egraph.specs.Graph.{Graph, IsGraph}

@@ -14,6 +14,24 @@
 //! the text, ask nothing of a world. `NoWorld` is right where two different constants are equal after a round that is
 //! reached. `verify_text` gives a line for each code (`told`). Laws:
 //! `terms_are_what_words_compute`, `same_code_does_the_goal`, `compared_graphs_decide`, `written_terms_are_sorted`.
+//!
+//! What nothing forced, and why:
+//! - The faults of the goals come before those of the codes, wherever they stand, since the codes are read for goals
+//!   that are known. In a code a missing `at` is looked for before its parts, and an `at` without all its parts names
+//!   no target. A code has as many words as its list has parts, also if one of them is no word, so which displacement a
+//!   branch must have doesn't depend on faults after it.
+//! - Register r is `input r` at entry, also if the goal has no input there, and isn't inserted for that. A part whose
+//!   term has no class isn't the same, so a code that leaves a target where it never wrote is `unknown`, unless the
+//!   register is the input's. What a word writes to register 31 isn't a term of the code, so neither are its operands.
+//! - The code keeps a class for each register that was written, and inserts at most five rows a word; the terms
+//!   themselves, which may be exponentially large, are in the contracts alone.
+//! - That a word can't trap is asked first, of the graph after the rounds: the class of its address must be one that
+//!   the rows show to be a multiple. Names of declared operators are left out, since none of these says anything of
+//!   multiples.
+//! - Of inputs after the code falls through nothing is promised, unlike of a printed schedule: hand-written code may
+//!   overwrite them.
+//! - `noworld` says nothing of the words, but each code of such a goal gets this line: its terms may let constants meet
+//!   in a round that the goal alone doesn't come to.
 #![tactic(auto)]
 
 mod branches;

@@ -3,9 +3,15 @@
 //!
 //! Proved: `lift_text` gives the canonical text of the goals of the lifts that the text reads as. `improve_text` and
 //! `improve_least_text` give right results of these goals, whose words do what the given ones do from all registers and
-//! memory from which those don't trap (`answered`, by the law `improved_code_is_the_same`). `cycles_text` gives for each
-//! lift a line that is true of the launch graph of its own words (`answered`, `count_cycles`). Each call gives the first
-//! fault of another text (`error`).
+//! memory from which those don't trap (`answered`, by the law `improved_code_is_the_same`). `cycles_text` gives for
+//! each lift a line that is true of the launch graph of its own words (`answered`, `count_cycles`). Each call gives the
+//! first fault of another text (`error`).
+//!
+//! What nothing forced, and why:
+//! - `cycles` speaks of the graph of the given words, and there is no clause that the words of its schedules do what
+//!   the given ones do: nothing of a schedule is written.
+//! - `improve` with `--least` is a command of its own in the code, as `solve` with it is, since its report has lines
+//!   after the answer.
 #![tactic(auto)]
 
 mod counting;

@@ -1,4 +1,4 @@
--- The lists of each encoding. Source: this project.
+-- The lists of each encoding: which launches and classes have variables. Source: this project.
 use Rattle.std.specs.Prelude.{◌≡◌, ◌≤◌, ℕ}
 use Rattle.schedule_meaning.specs.Limits.{most_cycles}
 use Rattle.machine_table.specs.declared.tables.Table.{Table}

@@ -1,5 +1,5 @@
 -- What the launches of a row need from other launches. At entry each input's class is there; the class of an input
--- whose register no launch writes is there always. Source: this project.
+-- whose register no launch writes is there always. No public clause rests on this. Source: this project.
 use Rattle.std.specs.Prelude.{ℕ, ◌&&◌, Bool, not, List}
 use Rattle.schedule_meaning.specs.Launches.{operands_at, IsClassOfInput}
 use Rattle.schedule_meaning.specs.declared.schedules.Operand.{Operand}

@@ -1,5 +1,5 @@
--- The scope of the encodings that leave launches out, by tables of what has come and what is wanted.
--- Source: this project.
+-- The scope of the encodings that leave launches out, by tables of what has come and what is wanted. No public clause
+-- rests on this. Source: this project.
 use Rattle.std.specs.Prelude.{ℕ, ◌||◌, Bool, List, Option, None, if◌then◌else◌}
 use Rattle.schedule_meaning.specs.Launches.{is_store, is_branch, class_at}
 use Rattle.graph_meaning.specs.declared.graphs.LaunchGraph.{LaunchGraph}

@@ -3,13 +3,32 @@
 //! The first variables of a formula are those of the launches; a plan tells which is which.
 //!
 //! Proved: `encode_as` builds exactly these clauses (`formula`, `plan`), or gives their counts where one passes its
-//! limit, exactly there (`size`, `within`), before any list is built. There are four encodings, by one body: the
-//! wide one has a variable for each launch that ends in time; the narrow one, that with pins and that by live ranges
-//! speak only of wanted classes and of launches whose operands can have come. `earliest_cycles` finds exactly which
-//! classes have come by each cycle up to 24, `wanted` which are wanted. What the values of these clauses show keeps the first four
-//! rules of a schedule, and the fifth for targets without a pin; each list of launches that keeps these has a part
-//! that does and is shown (`cycle_clauses_say_rules`, `parts_keep_rules`). An encoding gives a graph and a table
-//! one list at most (`each_encoding_has_one_list`).
+//! limit, exactly there (`size`, `within`), before any list is built. There are four encodings, by one body: the wide
+//! one has a variable for each launch that ends in time; the narrow one, that with pins and that by live ranges speak
+//! only of wanted classes and of launches whose operands can have come. `earliest_cycles` finds exactly which classes
+//! have come by each cycle up to 24, `wanted` which are wanted. What the values of these clauses show keeps the first
+//! four rules of a schedule, and the fifth for targets without a pin; each list of launches that keeps these has a part
+//! that does and is shown (`cycle_clauses_say_rules`, `parts_keep_rules`). An encoding gives a graph and a table one
+//! list at most (`each_encoding_has_one_list`).
+//!
+//! What nothing forced, and why:
+//! - What has variables is a scope: the clauses are functions of two lists, the launches that have variables, and where
+//!   classes are seen. Counts and clauses are found for any such scope, and the wide encoding is the one that leaves
+//!   nothing out. With pins it has each launch by where it goes too; no text names it with a graph that has pins.
+//! - A family of clauses is a function of lists of variables with the things that they stand for, and never computes a
+//!   number: 'the variables of the launches that pass a test' is what a clause has, so a thing without a variable isn't
+//!   in it. So another choice of which launches have variables keeps the families and their proofs.
+//! - The narrow encoding's lists are relations (`HasCome`, `Wanted`), the least that meet their rules; any walk may
+//!   find them. What is said of a goal's answer names a function from numbers of cycles to formulas: for each number
+//!   that may be asked for, the formula over some list of the encoding.
+//! - Wanted classes with pins: the guard's class counts as the branch's operand, so a zero class of a guard isn't
+//!   wanted. A set that holds the memory has no pin in a launch graph, so no clause asks which name a pinned set has.
+//! - The law says that some values show a list of launches with all values that are the same up to the formula's last
+//!   variable (`AreShown`), so that the formula with memory, guard, registers and pins goes on with its own. It has
+//!   what the upper crate's clauses say of pins as its condition, as a record of its own (`ArePinsKept`). The fifth
+//!   rule for targets with a pin isn't here, since the clauses that say it need no value's place.
+//! - Counters stand one after another, and an assignment is extended over them from the front, since each is over the
+//!   variables before it and its own.
 #![tactic(auto)]
 
 mod buckets;

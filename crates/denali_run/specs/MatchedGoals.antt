@@ -1,5 +1,5 @@
--- The graph of a goal after its rounds of matching. From Denali (PLDI 2002), its matching phase; when rounds end is
--- this project's.
+-- Settings, and the graph of a goal after its rounds of matching: what these derive and why they ended. From Denali
+-- (PLDI 2002), its matching phase; when rounds end is this project's.
 use Rattle.std.specs.Prelude.{ℕ, ◌≤◌, length, max}
 use Rattle.schedule_meaning.specs.Limits.{most_cycles}
 use Rattle.goal_meaning.specs.Views.{GoalTree, InputTree}

@@ -1,4 +1,5 @@
--- When the result that answers a goal is right. Source: this project, over Denali (PLDI 2002).
+-- When the result that answers a goal is right, case by case: which clauses say that a schedule fits, when lines refute
+-- them, and that a number of cycles is the least. Source: this project, over Denali (PLDI 2002).
 use Rattle.std.specs.Prelude.{◌≡◌, ℕ, ◌+◌, ◌<◌, ◌≤◌, ◌^◌, All, List, Option, None, Some, length}
 use Rattle.std.specs.List.{AllZip}
 use Rattle.word_ops.specs.Words.{IsWord}

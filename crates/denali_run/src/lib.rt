@@ -9,6 +9,25 @@
 //! bytes (`right_answers_are_read`); that `check` has room for all of them is no clause. `fewest_cycles` tells of any
 //! graph where the trial of numbers of cycles in rising order ends (`reached`). `check_text`, `run_text` and `gen_text`
 //! give exactly their reports (`checked`, `ran`, `answered`), or the first fault of a text that is read.
+//!
+//! What nothing forced, and why:
+//! - What a goal is answered by is a value (`Answered`), and the lines are a function of input and results
+//!   (`answer_lines`), so the work and its text are apart. Each result holds its matched graph as one part (`Matched`),
+//!   so that what holds of every result but `noworld` is said once.
+//! - The settings say the encoding of `Right` (`encoding_in`). `IsVerdict` has it as an argument, since `check` takes
+//!   the one that its text names.
+//! - The outcome of a goal is the reader's own function (`outcome`): what running the words must do is said of its two
+//!   cases, so a reader of `Computes` sees neither classes nor rounds.
+//! - A right result has numbers that its lines can hold, so a list of right results is determined by its text alone.
+//!   Which fitting schedule is found, the order of rows that rounds add, and the class of a `noworld` line are free.
+//! - What `solve` writes is read as its answer (`read_back`), for texts of at most 2 ^ 20 bytes, as many as the program
+//!   reads: the format has at most 1,000,000 rows for a goal, and five bytes of a text write at most four operators, so
+//!   no goal of such a text has more at its start, and rounds add none past `--nodes`.
+//! - The result of a generated goal is one of `solve`, found by the same calls. The two results that can't come have no
+//!   line (`IsGeneratedLine`), and the arms for them are proved never to be reached: they rest on laws of all graphs
+//!   that stand for such a goal, and not on what the solver does.
+//! - That the counts of the clauses were within their limits is a part of each result for each number of cycles that
+//!   was tried (`within`), so `spent size` comes exactly if they pass one.
 #![tactic(auto)]
 
 mod claiming;

@@ -1,4 +1,5 @@
--- What a merge joins: the congruence closure, as a relation.
+-- What a merge joins: the least congruence that has the old one and the pair, as a relation; the merged graph; when two
+-- constants meet. From Denali (PLDI 2002); the congruence closure is the field's.
 use Rattle.std.specs.Prelude.{◌≡◌, ℕ, ◌<◌, ◌≤◌, ◌↔◌, map, length, slice_index, Contains, Some}
 use Rattle.word_terms.specs.Signature.{Signature}
 use Rattle.egraph.specs.declared.rows.Row.{Row}

@@ -6,6 +6,13 @@
 //! (`generated_goals_have_a_world`), and each well-formed graph that stands for it has a schedule in as many cycles
 //! as it has operators (`generated_goals_can_be_scheduled`). So `gen` never answers that none fits, or that there
 //! is no world. `worked_chains` says what the chains of three and four operators are.
+//!
+//! What nothing forced, and why:
+//! - That a generated goal can be scheduled is said of graphs, not of rounds: a term's class is that of a row with its
+//!   operator and the classes of its operands, so a row of each operator is there, whatever else is, and these rows are
+//!   launched one after another in one slot.
+//! - The goal is an input as one that was read would be, but isn't made by reading a text: that its canonical text is
+//!   the one wanted is shown for five sizes.
 #![tactic(auto)]
 
 mod generating;

@@ -1,4 +1,5 @@
--- A text that is being read: what each form adds to it, and what the forms before give. Source: this project.
+-- A text that is being read: what each form adds to it, and what the forms before give. No public clause rests on this.
+-- Source: this project.
 use Rattle.std.specs.Prelude.{ℕ, ◌≡◌, ◌≢◌, ◌≤◌, false, List, [], ◌∷◌, ◌++◌, get_or, length, Option, Some, None, All, AllPairs}
 use Rattle.text_core.specs.Limits.{most_declared, most_axioms, most_goals}
 use Rattle.forms.specs.Forms.{Form}

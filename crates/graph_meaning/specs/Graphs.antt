@@ -1,5 +1,5 @@
--- Launch graphs: constants, the memory target, registers, and values under which every row is true.
--- Source: Denali (PLDI 2002), E-graphs and "goal terms"; how registers are given is this project's.
+-- Launch graphs, rows of operators over classes: constants, the memory target, registers, and values under which every
+-- row is true. Source: Denali (PLDI 2002), E-graphs and "goal terms"; how registers are given is this project's.
 use Rattle.std.specs.Prelude.{◌≡◌, ◌≢◌, ℕ, ◌<◌, List, [], ◌∷◌, ◌++◌, map, Option, None, Some, option_map, find, ◌==◌, All, AllPairs, Any, Contains, IfSome, if◌then◌else◌, codes, Bool, false, bytes_eq, slice_index}
 use Rattle.std.specs.Option.{option_map_or, option_or}
 use Rattle.std.specs.List.{list_any}

@@ -1,5 +1,5 @@
 -- How the greatest powers are found: what a row says by what stands of its operands so far, and a queue of the classes
--- of which more was found, whose rows are to be looked at again. From this project.
+-- of which more was found, whose rows are to be looked at again. No public clause rests on this. From this project.
 use Rattle.std.specs.Prelude.{◌≡◌, ℕ, ◌<◌, ◌≤◌, ◌⊎◌, ◌++◌, List, [], ◌∷◌, length, slice_index, slice_index_or, slice_set, sum, Option, Some, None, Bool, true, false, All, Contains}
 use Rattle.std.specs.Option.{option_map_or}
 use Rattle.word_ops.specs.Meanings.{constant_in}

@@ -11,6 +11,16 @@
 //! rows show its value to be a multiple, and where the rows are true its value is one (`classes_are_multiples`). A
 //! graph keeps those of its rows (`known_multiples`); where it is true, the value of a class and the sum of a base and
 //! a displacement are multiples of what is known of them (`known_multiples_are_true`).
+//!
+//! What nothing forced, and why:
+//! - Multiples are shown by a relation over rows (`IsShown`), and a class has the greatest power that is shown, which
+//!   is the least solution of what the rows ask. So the law that such a class has such a value is an induction over the
+//!   showing, and the queue is seen by no clause.
+//! - A graph keeps its multiples, found once from its rows, so that what can be launched is told without memory. The
+//!   list is empty if every address will do for each row's instruction: nothing is found for graphs whose accesses are
+//!   of bytes and 64-bit words.
+//! - What a well-formed graph promises of a class stands in laws, each for all graphs, since the layers above hold
+//!   classes and not rows.
 #![tactic(auto)]
 
 mod graphs;

@@ -1,5 +1,5 @@
--- The lines of a graph behind its rows: what is read of them, and when the first fault is among them. Source: this
--- project.
+-- The lines of a graph behind its rows: what is read of them, and when the first fault is among them. No public clause
+-- rests on this. Source: this project.
 use Rattle.std.specs.Prelude.{ℕ, ◌≡◌, ◌≢◌, ◌+◌, ◌<◌, ◌≤◌, ◌^◌, List, [], ◌∷◌, ◌++◌, length, map, codes, All, IfSome, Option, None, Some}
 use Rattle.word_ops.specs.declared.sorts.Sort.{Sort}
 use Rattle.word_ops.specs.declared.sorts.Sort.TheVariants as sorts

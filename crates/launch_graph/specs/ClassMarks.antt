@@ -1,4 +1,5 @@
--- What is known of each class of a block of rows before its rows are read. Source: this project.
+-- What is known of each class of a block of rows before its rows are read. No public clause rests on this. Source: this
+-- project.
 use Rattle.std.specs.Prelude.{ℕ, ◌≡◌, ◌<◌, List, length, Option, Some, None, slice_get, get_or}
 use Rattle.text_core.specs.Lines.{Line}
 use Rattle.word_ops.specs.declared.sorts.Sort.{Sort}

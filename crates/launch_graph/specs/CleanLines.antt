@@ -1,4 +1,4 @@
--- Lines that are the front of a graph, with no fault so far. Source: this project.
+-- Lines that are the front of a graph, with no fault so far. No public clause rests on this. Source: this project.
 use Rattle.std.specs.Prelude.{ℕ, ◌≡◌, ◌⊎◌, ◌+◌, ◌<◌, ◌≤◌, List, [], ◌∷◌, length, take, drop, get_or}
 use Rattle.word_ops.specs.declared.sorts.Sort.{Sort}
 use Rattle.text_core.specs.Lines.{Line, line_at}

@@ -1,4 +1,5 @@
--- How far into a graph some lines have come, and which lines may stand next. Source: this project.
+-- How far into a graph some lines have come, and which lines may stand next. No public clause rests on this. Source:
+-- this project.
 use Rattle.std.specs.Prelude.{ℕ, zero, suc, ◌≡◌, ◌<◌, ◌≤◌, ◌^◌, ◌==◌, false, List, [], ◌∷◌, ◌++◌, filter_map, Bool, Option, All, IfSome}
 use Rattle.std.specs.List.{cons_option, list_any}
 use Rattle.text_core.specs.LineTexts.{Words}

@@ -1,4 +1,4 @@
--- Words as they are printed behind others on a line. Source: this project.
+-- Words as they are printed behind others on a line. No public clause rests on this. Source: this project.
 use Rattle.std.specs.Prelude.{ℕ, ◌++◌, List, codes}
 use Rattle.std.specs.List.{flat_map}
 use Rattle.text_core.specs.LineTexts.{Words}

@@ -1,4 +1,5 @@
--- The lines of a graph that are no rows: when a line is one of a kind. Source: this project.
+-- The lines of a graph that are no rows: when a line is one of a kind. No public clause rests on this. Source: this
+-- project.
 use Rattle.std.specs.Prelude.{ℕ, ◌≡◌, ◌≤◌, ◌<◌, ◌^◌, List, [], ◌∷◌, All, None, Some, codes, decimal, false}
 use Rattle.text_core.specs.Names.{IsName}
 use Rattle.graph_meaning.specs.Graphs.{is_memory_name}

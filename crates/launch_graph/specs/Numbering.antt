@@ -1,4 +1,5 @@
--- Rows of a graph with their declared operators numbered, in the order of their first rows. Source: this project.
+-- Rows of a graph with their declared operators numbered, in the order of their first rows. No public clause rests on
+-- this. Source: this project.
 use Rattle.std.specs.Prelude.{ℕ, ◌≡◌, ◌≢◌, ◌⊎◌, ◌<◌, ◌≤◌, List, [], ◌∷◌, ◌++◌, length, map, take, Some, All, slice_get, slice_index_or, IsTrue, is_some}
 use Rattle.word_ops.specs.Meanings.{arity_of_op, count_of}
 use Rattle.word_ops.specs.declared.sorts.Arity.{Arity}

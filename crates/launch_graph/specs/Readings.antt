@@ -1,4 +1,5 @@
--- Where the rows of a graph begin and end among the lines of a text. Source: this project.
+-- Where the rows of a graph begin and end among the lines of a text. No public clause rests on this. Source: this
+-- project.
 use Rattle.std.specs.Prelude.{ℕ, ◌≡◌, ◌⊎◌, ◌+◌, ◌<◌, ◌≤◌, ◌^◌, List, length}
 use Rattle.text_core.specs.Lines.{Line, line_at}
 use Rattle.launch_graph.specs.LineReading.{IsHeaderLine}

@@ -1,4 +1,4 @@
--- What the words of a row are read as, step by step. Source: this project.
+-- What the words of a row are read as, step by step. No public clause rests on this. Source: this project.
 use Rattle.std.specs.Prelude.{ℕ, ◌≡◌, ◌≢◌, ◌<◌, ◌≤◌, ◌^◌, List, ◌++◌, length, map, drop, decimal, All}
 use Rattle.word_ops.specs.declared.sorts.Op.{Op}
 use Rattle.word_ops.specs.declared.sorts.Op.TheVariants.{Input, Constant, Declared}

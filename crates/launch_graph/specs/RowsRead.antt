@@ -1,4 +1,5 @@
--- The rows of a graph that are read so far, and where a fault of its lines stands. Source: this project.
+-- The rows of a graph that are read so far, and where a fault of its lines stands. No public clause rests on this.
+-- Source: this project.
 use Rattle.std.specs.Prelude.{ℕ, ◌≡◌, ◌+◌, ◌-◌, ◌<◌, ◌≤◌, List, [], length, take, drop}
 use Rattle.text_core.specs.Lines.{Line, line_at, BeginsAt}
 use Rattle.text_core.specs.declared.faults.Kind.{Kind}

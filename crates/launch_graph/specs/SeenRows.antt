@@ -1,4 +1,5 @@
--- What the rows so far tell of their classes: how many there are, and the constant of each. Source: this project.
+-- What the rows so far tell of their classes: how many there are, and the constant of each. No public clause rests on
+-- this. Source: this project.
 use Rattle.std.specs.Prelude.{ℕ, ◌≡◌, ◌<◌, List, length, Option, Some, None, get_or, Contains}
 use Rattle.launch_graph.specs.declared.row_lines.RowLine.{RowLine}
 use Rattle.launch_graph.specs.RowFaults.{HasRowOfClass, next_line_class, line_constant}

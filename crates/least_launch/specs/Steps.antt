@@ -1,4 +1,5 @@
--- What the clauses for fewer launches come to, in a step of the search. Source: this project.
+-- What the clauses for fewer launches come to, in a step of the search. No public clause rests on this. Source: this
+-- project.
 use Rattle.std.specs.Prelude.{ℕ, ◌+◌, ◌≤◌, List, length}
 use Rattle.graph_meaning.specs.declared.graphs.LaunchGraph.{LaunchGraph}
 use Rattle.machine_table.specs.declared.tables.Table.{Table}

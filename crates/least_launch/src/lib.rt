@@ -10,6 +10,19 @@
 //! (`answered`), which is read back as it was (`tailed_answers_are_read`); such a text is read in one way
 //! (`one_tailed_answer`). Where `check_least_text` says `least`, no schedule that fits in as many cycles, by the
 //! allocation of the text's encoding, has fewer launches, whoever wrote the text (`checked`).
+//!
+//! What nothing forced, and why:
+//! - `--least` is a flag of `solve`, `improve` and `check`: `proc` solves its blocks without it, since its answer has
+//!   linked words after it and no room for what is said of launches. Inside, each is a command of its own, with its
+//!   texts, faults and reports.
+//! - An answer ends at the first line `tail`; no line of an answer can be that one. `check` without the flag says
+//!   `BadLine` there.
+//! - The clauses for fewer launches are those of encoding 3 also after an answer of version 1, whose graph has no pins:
+//!   they speak of its schedules as well.
+//! - `check --least` doesn't ask that the lines after `most L spent` are as many as some budget; it tests that each is
+//!   a lemma.
+//! - A schedule in hand gives its variables the score 1 in the next search, so that a pick by scores begins near it.
+//!   What is proved of the answer doesn't depend on it.
 #![tactic(auto)]
 
 mod check_reporting;

@@ -6,6 +6,13 @@
 //! (`printed_tables_are_read`). The look-ups are exact; names and numbers of instructions are one to one, and an
 //! operate has those of its operator (`instructions_have_names`). `ev6` is the table of the 21264; on any table within
 //! the limits an instruction takes 1 to 16 cycles, and a slot that it may use exists (`tables_keep_limits`).
+//!
+//! What nothing forced, and why:
+//! - The pipes of an operate are of the 21264: its table gives them slots and latencies, and another table of a text
+//!   its own.
+//! - The uses of a table that was read are sorted by their instructions, so two texts that name the same uses in
+//!   another order have one table.
+//! - `ev6` is opened only if a proof computes with it, since a search that unfolds its 66 uses gives up.
 #![tactic(auto)]
 
 mod built_in;

@@ -1,5 +1,5 @@
--- What the steps of the encoder of memory, guards and registers look up.
--- Source: this project.
+-- What the steps of the encoder of memory, guards and registers look up. No public clause rests on this. Source: this
+-- project.
 use Rattle.std.specs.Prelude.{◌≡◌, ℕ, ◌+◌, ◌-◌, length, Bool, List, map, Option, None, Some, if◌then◌else◌, ◌*◌, ◌==◌, not}
 use Rattle.std.specs.Prelude.{◌<◌, [], ◌∷◌, ◌++◌, IsTrue}
 use Rattle.std.specs.List.{flat_map, filter, range_with_len, sum_by}

@@ -1,5 +1,5 @@
--- The formula of a schedule: the numbers of its variables, and its clauses in their order, part by part.
--- Source: this project.
+-- The formula of a schedule, that of all rules: the numbers of its variables, and its clauses in their order, part by
+-- part. Source: this project.
 use Rattle.std.specs.Prelude.{◌≡◌, ℕ, ◌+◌, ◌≤◌, List, ◌++◌, length, is_some}
 use Rattle.std.specs.List.{range_with_len}
 use Rattle.schedule_meaning.specs.Limits.{most_cycles}

@@ -1,4 +1,5 @@
--- What the walk over a pattern knows of its variables' classes, and what its steps find. From this project.
+-- What the walk over a pattern knows of its variables' classes, and what its steps find. No public clause rests on
+-- this. From this project.
 use Rattle.std.specs.Prelude.{◌≡◌, ℕ, ◌+◌, ◌<◌, ◌⊎◌, List, length, get_or, map, unwrap_or, Option, Some, None, All, AllPairs, Contains}
 use Rattle.word_ops.specs.declared.sorts.Op.{Op}
 use Rattle.word_terms.specs.Tree.{Tree, Trees, variable, application, none, more, AreBelow, EachBelow}

@@ -8,6 +8,16 @@
 //! (`exact`). `class_of_pattern` gives the class of a term over given classes, or none exactly where it has none. A
 //! term has one class at most (`terms_have_one_class`), and a match's classes are of the sorts of the rule's
 //! variables (`matches_have_sorts`).
+//!
+//! What nothing forced, and why:
+//! - Places of a match are classes of rows. Otherwise a left side that is a variable would match any number.
+//! - Lists of matches have no stated order: `Lists` says that each is there, once, and nothing else; `Count` is a
+//!   number by such a list.
+//! - The walk keeps a list of what is known of variables, each item of which stands for all lists of classes that agree
+//!   with it; no two items have one in common. So one lemma serves rows, operands and classes, and no order of
+//!   variables is assumed.
+//! - A fold is stated by the row that it is of, whose operands are the match's classes.
+//! - `matches` and `folds` give `Items`, as `equations` does, and not a `Vec`.
 #![tactic(auto)]
 
 mod computed;

@@ -1,7 +1,8 @@
-//! Procs: blocks of guarded multi-assignments over variables in registers, each of which leads to a block or to the end.
+//! Procs: blocks of guarded multi-assignments over variables in registers, each of which leads to a block or to the
+//! end.
 //!
-//! `read` reads a text of a proc, or refuses it with the first fault. `print` gives the canonical text, which is read as
-//! that proc again. `input_of` gives the goals, one for each block.
+//! `read` reads a text of a proc, or refuses it with the first fault. `print` gives the canonical text, which is read
+//! as that proc again. `input_of` gives the goals, one for each block.
 //!
 //! Proved: `read` gives exactly the proc that a text says, or the text's first fault; a text is at most one proc, and
 //! one that is has no fault (`procs_have_one_reading`). What is read is well formed (`read_procs_are_well_formed`),

@@ -1,5 +1,4 @@
--- What stands behind an answer, as it is appended.
--- Source: this project.
+-- What stands behind an answer, as it is appended. No public clause rests on this. Source: this project.
 use Rattle.std.specs.Prelude.{◌≡◌, ℕ, List, ◌++◌}
 use Rattle.denali_run.specs.declared.results.Answered.{Answered}
 use Rattle.proc_goal.specs.Views.{ProcTree}

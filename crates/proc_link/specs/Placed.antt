@@ -1,5 +1,5 @@
--- Where the words of blocks stand, as the code keeps it, and what it needs so as to link them.
--- Source: this project.
+-- Where the words of blocks stand, as the code keeps it, and what it needs so as to link them. No public clause rests
+-- on this. Source: this project.
 use Rattle.std.specs.Prelude.{◌≡◌, ℕ, ◌/◌, ◌≤◌, List, length, slice_index, All}
 use Rattle.text_core.specs.Limits.{most_blocks}
 use Rattle.schedule_meaning.specs.Limits.{most_launches}

@@ -10,6 +10,20 @@
 //! or gives its first fault (`error`); that the lines of the results are read back has the premise that each
 //! block's first graph has no more rows than the format. That a loop ends isn't promised. `worked_links` and
 //! `worked_steps` have two procs.
+//!
+//! What nothing forced, and why:
+//! - The block machine names variables by their names. Terms name registers, so a world is made in which each
+//!   variable's register has its word; pins play no part. That each set is pinned to its variable's register, as a
+//!   well-formed proc says, is what lets the words follow it.
+//! - What `link` asks of a listing is that its words compute the block's goal and may be run, that its instructions
+//!   have words, and that there are at most 192. No law leads from a listing of a schedule that fits to `Computes`
+//!   alone: `solve_goal` gives it with each scheduled result.
+//! - Any branch of a listing is led to the block's other target. A listing has at most one, but the proof needs only
+//!   that each leads to one word after the last.
+//! - Each block ends with a branch on register 31, also if the next block's words stand right after it, so that the
+//!   number of words is known before any word is made.
+//! - That the answer is read back has a premise: each block's first graph has no more rows than the format allows. For
+//!   texts of goals a law gives that from the text's length; for procs there is none.
 #![tactic(auto)]
 
 mod laws;

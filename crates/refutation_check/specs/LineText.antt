@@ -1,4 +1,5 @@
--- What stands in front of and behind the words of a line of a refutation, as it is printed: this project.
+-- What stands in front of and behind the words of a line of a refutation, as it is printed. No public clause rests on
+-- this. Source: this project.
 use Rattle.std.specs.Prelude.{ℕ, List, ◌++◌, codes, decimal}
 use Rattle.cnf_core.specs.declared.literal.Lit.{Lit}
 use Rattle.refutation_check.specs.LineWords.{literal_word}

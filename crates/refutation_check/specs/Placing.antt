@@ -1,5 +1,5 @@
 -- Where a lemma may be empty: in a refutation exactly in the last line, in a list of lemmas nowhere. For the loop that
--- both checks share: this project.
+-- both checks share. No public clause rests on this. Source: this project.
 use Rattle.std.specs.Prelude.{◌≡◌, ◌≢◌, ℕ, ◌↔◌, List, []}
 use Rattle.cnf_core.specs.declared.literal.Lit.{Lit}
 use Rattle.cnf_core.specs.declared.line.Line.{Line}

@@ -12,6 +12,16 @@
 //! without a load that waits for the guard. They never trap there (`keeps`). Out of memory is its one refusal. No
 //! launch gets a register of the pool that one before it holds in its cycle (`pools_never_run_out`).
 //! `worked_listing` has the words of small schedules.
+//!
+//! What nothing forced, and why:
+//! - What running leaves as at entry is said of all registers that are neither pool nor pin, since words that follow
+//!   stand on that; and of each word that it is stepped in its place, so that a text of several schedules can be run
+//!   word by word.
+//! - `IsListing` hides a word order, so alone it is no function; `assign` says besides that no other items and places
+//!   are the schedule's listing. The words that a schedule means are compared as numbers (`HasListing`).
+//! - What running the words does is said of any words that decode to the items, so no clause needs `encode`.
+//! - A launch that is read has its slot below 2 ^ 31 too (`IsLaunch`), which each table within its limits keeps; the
+//!   reader of a line sees a table without these limits.
 #![tactic(auto)]
 
 mod assigning;

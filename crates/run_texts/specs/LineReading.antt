@@ -1,4 +1,4 @@
--- When a line is one of a program's text, by itself. Source: this project.
+-- When a line is one of a program's text, by itself. No public clause rests on this. Source: this project.
 use Rattle.std.specs.Prelude.{ℕ, ◌≡◌, ◌<◌, List}
 use Rattle.std.specs.Str.Parse.{digits_value}
 use Rattle.word_ops.specs.Words.{IsWord}

@@ -1,4 +1,4 @@
--- How far a program's text has been read. Source: this project.
+-- How far a program's text has been read. No public clause rests on this. Source: this project.
 use Rattle.std.specs.Prelude.{ℕ, ◌≡◌, ◌≢◌, ◌/◌, List, All, take}
 use Rattle.word_ops.specs.Memory.{Memory, word_at}
 use Rattle.text_core.specs.Lines.{Line, line_at}

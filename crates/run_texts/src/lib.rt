@@ -8,6 +8,11 @@
 //! starts with what its text gives and 0 elsewhere (`programs_start_as_given`). `report` prints exactly the end,
 //! registers and places of the state to which the machine's steps lead from there; a program has one report
 //! (`one_report`).
+//!
+//! What nothing forced, and why:
+//! - A program's text is faulty at the first line with which its lines are the front of no program (`IsRunFaultAt`). A
+//!   front of a program is a program itself, so no text that goes on after needs to be named. A line past a limit that
+//!   is otherwise right is `LimitPassed`; there is no limit on registers to pass, since each of the 31 comes once.
 #![tactic(auto)]
 
 mod laws;

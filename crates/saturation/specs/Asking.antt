@@ -1,4 +1,4 @@
--- What a round asks for, and the rules that it comes from. From this project.
+-- What a round asks for, and the rules that it comes from. No public clause rests on this. From this project.
 use Rattle.std.specs.Prelude.{◌≡◌, ◌≢◌, ℕ, ◌+◌, ◌<◌, ◌⊎◌, List, [], ◌∷◌, ◌++◌, map, length, unwrap_or, All, Contains}
 use Rattle.std.specs.List.{AllZip}
 use Rattle.word_ops.specs.Operators.{operators}

@@ -1,4 +1,5 @@
--- Classes and declared operators, numbered in the order of their first rows. From this project.
+-- Classes and declared operators, numbered in the order of their first rows. No public clause rests on this. From this
+-- project.
 use Rattle.std.specs.Prelude.{◌≡◌, ℕ, List, [], ◌∷◌, ◌++◌, map, length, fold, slice_index, nat_lt, if◌then◌else◌, ◌==◌, not, Option, None, Some}
 use Rattle.std.specs.List.{filter_map, position_or_len}
 use Rattle.word_ops.specs.declared.sorts.Op.{Op}

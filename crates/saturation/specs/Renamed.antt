@@ -1,4 +1,5 @@
--- When a graph has the rows of another, with other numbers for classes. From this project.
+-- When a graph has the rows of another, with other numbers for classes. No public clause rests on this. From this
+-- project.
 use Rattle.std.specs.Prelude.{◌≡◌, ℕ, map, All}
 use Rattle.word_ops.specs.declared.sorts.Op.{Op}
 use Rattle.egraph.specs.Graph.{Graph, HasClass}

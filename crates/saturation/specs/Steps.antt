@@ -1,4 +1,4 @@
--- What is done with a graph after some rounds. From this project.
+-- What is done with a graph after some rounds. No public clause rests on this. From this project.
 use Rattle.std.specs.Prelude.{◌≡◌, ◌≢◌, ℕ, ◌+◌, ◌≤◌, Bool, true, false, List, length, map, All}
 use Rattle.word_ops.specs.declared.sorts.Op.{Op}
 use Rattle.axiom_base.specs.Rewrites.{IsRule}

@@ -15,6 +15,15 @@
 //!
 //! All this is said of the goal without lets, which no call makes: a let is inserted once, its name stands for its
 //! class, and it has no more rows than its own term has operators (`few_rows`).
+//!
+//! What nothing forced, and why:
+//! - What rounds derive is an inductive relation over terms (`Derives`), which knows nothing of graphs: terms and pairs
+//!   of the start, equal operands, and both sides of a rule one round after its left side is there. A graph is grown
+//!   for a number of rounds if two terms have one class exactly if that makes them equal.
+//! - A round asks for all that is unmet in the graph at its start, and then makes it, so no round matches in a graph
+//!   that it changes. Quiet is tested before the limit, and the limit before the number of rounds.
+//! - Rounds go on where the unmet matches need a number of rows within the limit. Said the other way, that they need
+//!   none past it, a proof would have to show that they need one number only.
 #![tactic(auto)]
 
 mod applying;

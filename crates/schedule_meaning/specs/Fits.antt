@@ -1,5 +1,5 @@
--- When a schedule fits a graph and a table in k cycles.
--- Source: this project, over Denali (PLDI 2002): issue slots, latencies, clusters, memory in order, the guard's branch.
+-- When a schedule fits a graph and a table in k cycles: the nine rules that it keeps. Source: this project, over Denali
+-- (PLDI 2002): issue slots, latencies, clusters, memory in order, the guard's branch.
 use Rattle.std.specs.Prelude.{◌≡◌, ℕ, ◌+◌, ◌<◌, ◌≤◌, List, length, unwrap_or, All, AllPairs, Any, IsTrue, IsSomeAnd, IfSome, Option, Some, None, ◌⊎◌, count_by, slice_get}
 use Rattle.machine_table.specs.Tables.{MayUse, latency_of}
 use Rattle.graph_meaning.specs.Graphs.{memory_target, is_memory_name, is_input_register}

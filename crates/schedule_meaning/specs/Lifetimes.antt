@@ -1,6 +1,6 @@
--- How long launches keep their registers of the pool.
--- Source: this project, over the live ranges of register allocation: a register is free in the cycle behind the last
--- launch that reads its word.
+-- At which cycles a class is needed, and so how long launches keep their registers of the pool. Source: this project,
+-- over the live ranges of register allocation: a register is free in the cycle behind the last launch that reads its
+-- word.
 use Rattle.std.specs.Prelude.{ℕ, ◌==◌, ◌&&◌, ◌||◌, nat_le, nat_lt, Bool, not, is_some, List, None}
 use Rattle.std.specs.List.{list_any}
 use Rattle.graph_meaning.specs.Graphs.{is_memory_name, is_zero_class}

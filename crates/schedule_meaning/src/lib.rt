@@ -15,6 +15,21 @@
 //! (`pins_may_be_absent`). What fits where registers are kept to the end of the block fits by live ranges
 //! (`blocks_fit_by_live_ranges`), and a class that isn't needed any more stays so (`need_never_comes_back`). The
 //! look-ups are exact; `worked_schedules` has a list that breaks each rule first.
+//!
+//! What nothing forced, and why:
+//! - `fits` has no condition on graph and table, so a reader of answers may ask it of any; `operand_at` gives the
+//!   operands of a row by place and value, since an operate of a graph that isn't well formed has as many as its row
+//!   says. The list is shorter than 2 ^ 29, so that its length is a launch's number.
+//! - By live ranges all launches of a needed class hold, so computing a value again frees nothing, and a word never
+//!   writes the register that it reads, but for pins. A rule by places in word order instead of cycles would allow
+//!   that; its clauses are some times as many.
+//! - What overwrites stands last in its cycle, so other launches of the cycle still read the input. 'Another launch' is
+//!   recognised by slot and cycle, which differs from the place in the list only if two launches collide, and then an
+//!   earlier rule is broken. A launch that overwrites doesn't read what another overwrites in its own cycle, since of
+//!   those two one stands first.
+//! - Two launches to one set break the rule on targets: exactly one goes there, or none if the class is in the register
+//!   from the start.
+//! - Word order knows nothing of how the code sorts.
 #![tactic(auto)]
 
 mod destinations;

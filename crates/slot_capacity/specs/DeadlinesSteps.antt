@@ -1,5 +1,4 @@
--- What the steps that find deadlines look up.
--- Source: this project.
+-- What the steps that find deadlines look up. No public clause rests on this. Source: this project.
 use Rattle.std.specs.Prelude.{ℕ, ◌-◌, ◌==◌, min, max, List, [], ◌∷◌, Option, fold, if◌then◌else◌}
 use Rattle.std.specs.List.{flat_map}
 use Rattle.machine_table.specs.declared.tables.Table.{Table}

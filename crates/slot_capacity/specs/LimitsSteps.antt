@@ -1,5 +1,4 @@
--- What the search for limits looks up.
--- Source: this project.
+-- What the search for limits looks up. No public clause rests on this. Source: this project.
 use Rattle.std.specs.Prelude.{ℕ, List, Option, filter, map}
 use Rattle.machine_table.specs.declared.tables.Table.{Table}
 use Rattle.graph_meaning.specs.declared.graphs.LaunchGraph.{LaunchGraph}

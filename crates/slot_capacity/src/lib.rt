@@ -11,6 +11,10 @@
 //! classes differ; `capacity_sizes` gives the counts of the clauses before any is built, and `extend_by_capacity` adds
 //! exactly these clauses. A schedule that fits launches each due class from its first cycle on and by its deadline, and
 //! no more of them than there are slots, so that values which show it extend to the clauses (`slots_suffice`).
+//!
+//! What nothing forced, and why:
+//! - A copy counts as a row that makes its class, unless it reads it: a pinned set of a constant is made by its copy
+//!   alone.
 #![tactic(auto)]
 
 mod clauses;

@@ -1,4 +1,4 @@
--- The kinds of fault of a text, how a fault prints, and which of its faults a pass gives. Source: this project.
+-- The 20 kinds of fault of a text, how a fault prints, and which of its faults a pass gives. Source: this project.
 use Rattle.std.specs.Prelude.{ℕ, ◌≡◌, ◌<◌, ◌≤◌, ◌⊎◌, ⊤, List, ◌++◌, codes, decimal}
 use Rattle.std.specs.declared.result.Result.{Result}
 use Rattle.std.specs.declared.result.Result.TheVariants.{Ok, Err}

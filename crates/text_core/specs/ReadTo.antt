@@ -1,4 +1,4 @@
--- How far a text has been read. Source: this project.
+-- How far a text has been read. No public clause rests on this. Source: this project.
 use Rattle.std.specs.Prelude.{ℕ, ◌≡◌, List, length, drop}
 use Rattle.std.specs.List.{concat}
 use Rattle.text_core.specs.declared.tokens.Token.{Token}

@@ -10,6 +10,19 @@
 //! after another within the text. Printed lines are read back as the same words wherever they stand, and each text of
 //! lines is what its words print (`printed_lines_are_lines`). `decimal` and `is_name` are exact both ways; a name token
 //! is a name; a fault prints as stated.
+//!
+//! What nothing forced, and why:
+//! - A fault of the parentheses is first by its token, so `tree` needs no condition on places; a law gives 'earliest by
+//!   place' for the tokens of a text.
+//! - A parenthesis is matched by tokens that spell trees. So an open list inside 64 others is too deep only if the
+//!   outermost of those that it stands in is closed later; otherwise that one is the earlier fault, as unclosed. No
+//!   tree deeper than 64 is built, so nothing recurses without a bound.
+//! - `lines` looks at all bytes first, since a byte that isn't allowed comes before all other faults, wherever it
+//!   stands.
+//! - `Sexp` holds a plain `Vec`, since a type can't be seen by a model if it holds itself; clauses see it through
+//!   `sexp_trees`.
+//! - What puts words and numbers after a text, and asks for the form of a line, is for all crates with lines. Those of
+//!   goal texts print numbers without a space before them, and have their own.
 #![tactic(auto)]
 
 mod faults;

@@ -1,5 +1,6 @@
--- A value, and the world that a goal's terms are read in. From Denali (PLDI 2002): memory is one of the variables,
--- and a declared operator has no meaning but what the axioms say of it.
+-- A value, which is a word or a memory, and the world that a goal's terms are read in: 32 registers, of which register
+-- 31 holds 0, a memory, and a function for each declared operator's name. From Denali (PLDI 2002): memory is one of the
+-- variables, and a declared operator has no meaning but what the axioms say of it.
 use Rattle.std.specs.Prelude.{◌≡◌, ℕ, List, length, slice_index, All}
 use Rattle.word_ops.specs.Words.{IsWord}
 use Rattle.word_ops.specs.Memory.{Memory, IsMemory}

@@ -10,6 +10,11 @@
 //! each `Access`, which gives the names of the operators that read and write so. Laws: what operators give is in range
 //! (`meanings_are_in_range`), what a memory holds after a write, and when two are equal (`memories_hold_words`), the
 //! bits of shifts, extended signs and masks (`words_have_bits`).
+//!
+//! What nothing forced, and why:
+//! - Operators are defined in arithmetic modulo 2 ^ 64, and by bits only where the Handbook speaks of bits. High-byte
+//!   operations shift by (64 - 8o) mod 64 also at offset 0.
+//! - What is promised of bits, ranges and memories is given to the lemmas as arguments.
 #![tactic(auto)]
 
 mod accesses;

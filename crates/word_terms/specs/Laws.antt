@@ -1,4 +1,4 @@
--- The laws of both operator types. Each `impl` cites them, so they stand here.
+-- The proofs of the laws of both operator types, and no definition. Each `impl` cites them, so they stand here.
 use Rattle.std.proofs.Common.{◌≡◌, ℕ, ◌-◌, ◌≤◌, ◌==◌, if◌then◌else◌, List, [], slice_get, Some, refl, sym, ap, ◌∙◌, arith}
 use Rattle.std.specs.Option.{unwrap_or}
 use Rattle.word_ops.specs.Operators.{operators, at_its_number, arity_of}
