@@ -77,7 +77,7 @@ function allowed(asked,    names) {
 }
 
 # Why a value is refused, or nothing.
-function value_fault(asked, given,    bound, part, count, i, names, seen) {
+function value_fault(asked, given,    bound, part, count, i, names, seen, meant) {
     if (value[asked] ~ /\.\./) {
         split(value[asked], bound, /\.\./)
         if (given ~ /^(0|[1-9][0-9]*)$/ && length(given) <= 7 && given + 0 >= bound[1] + 0 && given + 0 <= bound[2] + 0) return ""
@@ -90,8 +90,10 @@ function value_fault(asked, given,    bound, part, count, i, names, seen) {
         count = split(given, part, /,/)
         if (count == 0) return asked " has an empty value: " allowed(asked) " is wanted"
         for (i = 1; i <= count; i++) {
-            if (index(" " names " ", " " part[i] " ") == 0 || part[i] == "" || part[i] ~ / /)
-                return asked " " given ": '" part[i] "' is no family of rules" question(part[i], names " none all")
+            if (index(" " names " ", " " part[i] " ") == 0 || part[i] == "" || part[i] ~ / /) {
+                meant = question(part[i], names " none all")
+                return asked " " given ": '" part[i] "' is no family of rules" (meant == "" ? "; " allowed(asked) " is wanted" : meant)
+            }
             if (part[i] in seen) return asked " " given ": " part[i] " stands twice"
             seen[part[i]] = 1
         }
@@ -182,7 +184,7 @@ function parse(first, last,    at, word, name, files, count, only_files, topic, 
     if (name == "help") name = topic
     for (at = 1; at <= pendings; at++) add_option(name, pending[at], last)
     if (asked == "help" && topic == "") topic = name
-    if (asked == "run" && name == "" && count == 0 && refused == "") refuse("", "there is no command and no file")
+    if (asked == "run" && name == "" && count == 0 && refused == "") refuse("", "there is no command and no file; - is the standard input")
     if (name != "" && asked == "run") {
         if (count > 0 && reads[name] == "nothing") refuse(first_file, name " reads no file: " first_file)
         if (count > 1) refuse(first_file, name " reads one file")
