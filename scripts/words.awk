@@ -259,7 +259,7 @@ function help_all(version,    i) {
     print ""
     print "What a file asks for:"
     for (i = 1; i <= forms; i++) printf "  %-30s %s\n", what[form[i]] (length(what[form[i]]) > 30 ? "\n" sprintf("%32s", "") : ""), settings[form[i]]
-    print "An option behind FILE takes the place of the same one."
+    print "An option behind FILE overrides the same one of this list."
     print ""
     print "Commands:"
     for (i = 1; i <= commands; i++) printf "  %-10s %s\n", command[i], wrapped(does[command[i]], 86, sprintf("%13s", ""))
