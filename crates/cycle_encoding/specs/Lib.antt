@@ -16,3 +16,5 @@ pub mod CycleRules
 pub mod Steps
 pub mod Faults
 pub mod Narrow
+pub mod FamilyVars
+pub mod Framed

@@ -1,48 +1,29 @@
 // The launches that have variables, by where they go.
 ghost use Rattle.std.specs.Prelude.{◌≡◌, ◌+◌, ◌<◌, ◌≤◌, ◌^◌, ◌++◌, IfOk, OnOk, length};
-ghost use Rattle.schedule_meaning.specs.Limits.{most_cycles};
-ghost use Rattle.machine_table.specs.Tables.{IsTable};
+ghost use Rattle.cycle_encoding.specs.Framed.{IsFrame};
 ghost use Rattle.cycle_encoding.specs.CycleFormula.{allocation_in, first_cycle_in};
 ghost use Rattle.cycle_encoding.specs.Facts as specs;
 ghost use Rattle.cycle_encoding.specs.Variables.{launches_from, row_launches};
 
+use crate::Frame;
 use crate::launches::{cycles, may_use};
 use crate::reaching::destinations;
-use crate::{Facts, Scope};
 use items::NoMemory;
-use machine_table::{InstrKind, Table};
-use schedule_meaning::{Allocation, Launch, To};
+use schedule_meaning::{Launch, To};
 use std::alloc::Global;
 
 /// The launches of each row from its first cycle that end by k: by row, then by slot, then by cycle, then by where they
 /// go, the pool first. Behind the branch each set has the row of its copy.
 #[tactic(auto, using(crate::proofs::Destined::rows_more))]
-pub fn launches_from(
-    alloc: Global,
-    facts: &Facts,
-    table: &Table,
-    scope: &Scope,
-    k: u32,
-) -> Result<Vec<Launch>, NoMemory>
-    requires cycles { k ≤ most_cycles }
-    requires table { IsTable table.now }
-    requires rows { length facts.now.rows < 2 ^ 30 }
-    ensures { IfOk result (λ launches. launches.items
-        ≡ launches_from facts.now table.now (allocation_in scope.now) k (first_cycle_in scope.now)) }
+pub fn launches_from(alloc: Global, frame: &Frame) -> Result<Vec<Launch>, NoMemory>
+    requires frame { IsFrame frame.now }
+    ensures { IfOk result (λ launches. launches.items ≡ launches_from frame.now.facts.now frame.now.table.now
+        (allocation_in frame.now.scope.now) frame.now.k (first_cycle_in frame.now.scope.now)) }
 {
     let mut launches = Vec::new(alloc);
-    for row in 0..facts.row_numbers() {
-        let first = scope.first(row);
-        push_row(
-            alloc,
-            &mut launches,
-            facts,
-            table,
-            scope.allocation(),
-            first,
-            k,
-            row,
-        )?;
+    for row in 0..frame.facts.row_numbers() {
+        let first = frame.scope.first(row);
+        push_row(alloc, &mut launches, frame, first, row)?;
     }
     Ok(launches)
 }
@@ -52,52 +33,54 @@ pub fn launches_from(
 fn push_row(
     alloc: Global,
     launches: &mut Vec<Launch>,
-    facts: &Facts,
-    table: &Table,
-    allocation: Allocation,
+    frame: &Frame,
     first: Option<u32>,
-    k: u32,
     row: u32,
 ) -> Result<(), NoMemory>
-    requires cycles { k ≤ most_cycles }
-    requires table { IsTable table.now }
-    ensures { OnOk result (launches.new.items
-        ≡ launches.old.items ++ row_launches facts.now table.now allocation k first row) }
+    requires frame { IsFrame frame.now }
+    ensures { OnOk result (launches.new.items ≡ launches.old.items ++ row_launches frame.now.facts.now
+        frame.now.table.now (allocation_in frame.now.scope.now) frame.now.k first row) }
 {
-    let Some(instr) = facts.instr_at(row) else {
+    let Some(instr) = frame.facts.instr_at(row) else {
         return Ok(());
     };
-    let Some(latency) = table.latency(instr) else {
+    let Some(latency) = frame.table.latency(instr) else {
         return Ok(());
     };
     let Some(first) = first else {
         return Ok(());
     };
-    let tos = destinations(alloc, facts, allocation, row)?;
-    let cycles = cycles(k, latency, first);
-    for slot in 0..table.slots.len() as u32 {
-        if may_use(table, instr, slot) {
-            push_slot(launches, row, slot, first, cycles, &tos)?;
+    let tos = destinations(alloc, frame.facts, frame.scope.allocation(), row)?;
+    let cycles = cycles(frame.k, latency, first);
+    for slot in 0..frame.table.slots.len() as u32 {
+        if may_use(frame.table, instr, slot) {
+            push_slot(launches, Place { row, slot }, first, cycles, &tos)?;
         }
     }
     Ok(())
 }
 
+/// A row and a slot for it.
+#[derive(Clone, Copy)]
+struct Place {
+    row: u32,
+    slot: u32,
+}
+
 /// The launches of a row in a slot.
 fn push_slot(
     launches: &mut Vec<Launch>,
-    row: u32,
-    slot: u32,
+    place: Place,
     first: u32,
     cycles: u32,
     tos: &[To],
 ) -> Result<(), NoMemory>
     requires { first + cycles < 2 ^ 32 }
     ensures { OnOk result (launches.new.items
-        ≡ launches.old.items ++ specs.destined_slot row first cycles tos.now slot) }
+        ≡ launches.old.items ++ specs.destined_slot place.row first cycles tos.now place.slot) }
 {
     for step in 0..cycles {
-        push_cycle(launches, row, slot, first + step, tos)?;
+        push_cycle(launches, place.row, place.slot, first + step, tos)?;
     }
     Ok(())
 }
@@ -110,8 +93,7 @@ fn push_cycle(
     cycle: u32,
     tos: &[To],
 ) -> Result<(), NoMemory>
-    ensures { OnOk result (launches.new.items
-        ≡ launches.old.items ++ specs.cycle_launches row slot tos.now cycle) }
+    ensures { OnOk result (launches.new.items ≡ launches.old.items ++ specs.cycle_launches row slot tos.now cycle) }
 {
     for to in tos {
         launches.push(Launch {

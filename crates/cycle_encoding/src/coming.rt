@@ -1,7 +1,6 @@
 // By which cycle each class has come: the word of some row or copy of it is ready in its own cluster, or the memory of
 // some store of it is left.
 ghost use Rattle.std.specs.Prelude.{◌≡◌, ◌+◌, ◌≤◌, ℕ, None, length, map, IfOk};
-ghost use Rattle.std.specs.List.{range_with_len};
 ghost use Rattle.schedule_meaning.specs.Limits.{most_cycles};
 ghost use Rattle.graph_meaning.specs.WellFormed.{IsLaunchGraph, next_class};
 ghost use Rattle.machine_table.specs.Tables.{IsTable};
@@ -67,87 +66,74 @@ fn put_come(come: &mut Vec<Option<u32>>, class: u32, cycle: u32)
     }
 }
 
+/// The rows of a graph, under a table and an allocation.
+#[derive(Clone, Copy)]
+pub struct Rows<'a> {
+    pub facts: &'a Facts<'a>,
+    pub table: &'a Table,
+    pub allocation: Allocation,
+}
+
 /// Finds when the row's class comes, if the row can start at the cycle.
-fn pass_row(
-    come: &mut Vec<Option<u32>>,
-    facts: &Facts,
-    table: &Table,
-    _allocation: Allocation,
-    needs: &[u32],
-    row: u32,
-    cycle: u32,
-)
-    requires graph { IsLaunchGraph facts.now }
-    requires needs { needs.now ≡ start_needs facts.now _allocation row }
+fn pass_row(come: &mut Vec<Option<u32>>, rows: &Rows, needs: &[u32], row: u32, cycle: u32)
+    requires graph { IsLaunchGraph rows.now.facts.now }
+    requires needs { needs.now ≡ start_needs rows.now.facts.now rows.now.allocation row }
     requires cycle { cycle ≤ most_cycles }
-    requires table { IsTable table.now }
-    requires long { length come.old.items ≡ next_class facts.now.rows }
-    requires sound { AreSound facts.now table.now _allocation come.old.items }
-    requires found { ComesAreFound facts.now table.now _allocation come.old.items cycle }
+    requires table { IsTable rows.now.table.now }
+    requires long { length come.old.items ≡ next_class rows.now.facts.now.rows }
+    requires sound { AreSound rows.now.facts.now rows.now.table.now rows.now.allocation come.old.items }
+    requires found { ComesAreFound rows.now.facts.now rows.now.table.now rows.now.allocation come.old.items cycle }
     ensures long { length come.new.items ≡ length come.old.items }
-    ensures sound { AreSound facts.now table.now _allocation come.new.items }
+    ensures sound { AreSound rows.now.facts.now rows.now.table.now rows.now.allocation come.new.items }
     ensures still { StillCome come.old.items come.new.items }
-    ensures passed { IsPassed facts.now table.now _allocation come.new.items cycle row }
+    ensures passed { IsPassed rows.now.facts.now rows.now.table.now rows.now.allocation come.new.items cycle row }
 {
-    let Some(delay) = delay(facts, table, row) else {
+    let Some(delay) = delay(rows.facts, rows.table, row) else {
         return;
     };
     if have_come(come, cycle, needs) {
-        let class = class_at(facts.graph(), row);
+        let class = class_at(rows.facts.graph(), row);
         put_come(come, class, cycle + delay);
     }
 }
 
 /// Finds what comes of all rows and copies that can start at the cycle.
-fn pass_rows(
-    come: &mut Vec<Option<u32>>,
-    facts: &Facts,
-    table: &Table,
-    allocation: Allocation,
-    needs: &[Items<u32>],
-    cycle: u32,
-)
-    requires needs { needs.now ≡ map (start_needs facts.now allocation) (row_numbers facts.now) }
+fn pass_rows(come: &mut Vec<Option<u32>>, rows: &Rows, needs: &[Items<u32>], cycle: u32)
+    requires needs { needs.now ≡ map (start_needs rows.now.facts.now rows.now.allocation)
+        (row_numbers rows.now.facts.now) }
     requires cycle { cycle ≤ most_cycles }
-    requires table { IsTable table.now }
-    requires graph { IsLaunchGraph facts.now }
-    requires long { length come.old.items ≡ next_class facts.now.rows }
-    requires sound { AreSound facts.now table.now allocation come.old.items }
-    requires found { ComesAreFound facts.now table.now allocation come.old.items cycle }
+    requires table { IsTable rows.now.table.now }
+    requires graph { IsLaunchGraph rows.now.facts.now }
+    requires long { length come.old.items ≡ next_class rows.now.facts.now.rows }
+    requires sound { AreSound rows.now.facts.now rows.now.table.now rows.now.allocation come.old.items }
+    requires found { ComesAreFound rows.now.facts.now rows.now.table.now rows.now.allocation come.old.items cycle }
     ensures long { length come.new.items ≡ length come.old.items }
-    ensures sound { AreSound facts.now table.now allocation come.new.items }
+    ensures sound { AreSound rows.now.facts.now rows.now.table.now rows.now.allocation come.new.items }
     ensures still { StillCome come.old.items come.new.items }
-    ensures passed { (row : ℕ) → IsPassed facts.now table.now allocation come.new.items cycle row }
+    ensures passed { (row : ℕ) → IsPassed rows.now.facts.now rows.now.table.now rows.now.allocation come.new.items cycle
+        row }
 {
-    for row in 0..facts.row_numbers() {
-        pass_row(
-            come,
-            facts,
-            table,
-            allocation,
-            needs[row as usize].as_slice(),
-            row,
-            cycle,
-        );
+    for row in 0..rows.facts.row_numbers() {
+        pass_row(come, rows, needs[row as usize].as_slice(), row, cycle);
     }
 }
 
 /// For each class the first cycle by which it has come, where that is one up to 24 or soon behind it.
 pub fn earliest_cycles(
     alloc: Global,
-    facts: &Facts,
-    table: &Table,
-    allocation: Allocation,
+    rows: &Rows,
     needs: &[Items<u32>],
 ) -> Result<Vec<Option<u32>>, NoMemory>
-    requires needs { needs.now ≡ map (start_needs facts.now allocation) (row_numbers facts.now) }
-    requires table { IsTable table.now }
-    requires graph { IsLaunchGraph facts.now }
-    ensures { IfOk result (λ come. IsExactUpTo facts.now table.now allocation come.items most_cycles) }
+    requires needs { needs.now ≡ map (start_needs rows.now.facts.now rows.now.allocation)
+        (row_numbers rows.now.facts.now) }
+    requires table { IsTable rows.now.table.now }
+    requires graph { IsLaunchGraph rows.now.facts.now }
+    ensures { IfOk result (λ come. IsExactUpTo rows.now.facts.now rows.now.table.now rows.now.allocation come.items
+        most_cycles) }
 {
-    let mut come = filled(alloc, None, next_class(facts.graph()))?;
+    let mut come = filled(alloc, None, next_class(rows.facts.graph()))?;
     for cycle in 0..MOST_CYCLES + 1 {
-        pass_rows(&mut come, facts, table, allocation, needs, cycle);
+        pass_rows(&mut come, rows, needs, cycle);
     }
     Ok(come)
 }

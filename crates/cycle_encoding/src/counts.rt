@@ -1,6 +1,7 @@
 // How many launches a row has, whatever their destinations; and what counts may be.
 ghost use Rattle.std.specs.Prelude.{◌≡◌, ◌+◌, ◌*◌, ◌<◌, ◌≤◌, ◌^◌, ◌||◌, ◌↔◌, ◌⊎◌, nat_lt, length, IfErr, IsTrue, OnOk};
 ghost use Rattle.std.specs.List.{count_by, range_with_len};
+ghost use Rattle.cycle_encoding.specs.Framed.{IsFrame, over};
 ghost use Rattle.cycle_encoding.specs.Limits.{most_vars, most_clauses};
 ghost use Rattle.schedule_meaning.specs.Limits.{most_cycles};
 ghost use Rattle.cnf_core.specs.Counter as counter;
@@ -14,7 +15,7 @@ ghost use Rattle.cycle_encoding.specs.Plans.{IsTooLarge};
 
 use crate::launches::{can_begin, cycles, may_use};
 use crate::seen::has_cluster;
-use crate::{EncodeFault, Facts, Scope};
+use crate::{EncodeFault, Facts, Frame, Scope};
 use machine_table::{InstrKind, Table};
 
 /// The most variables that a formula may have.
@@ -80,28 +81,20 @@ pub fn one_size(literals: u64) -> u64
 
 /// Whether some launch of the row is in a slot and cycle.
 #[tactic(auto, using(crate::proofs::Tallies::has_is, crate::proofs::Tallies::has_without_first, crate::proofs::Tallies::has_without_use, crate::proofs::Tallies::has_without_instr))]
-pub fn row_has(
-    facts: &Facts,
-    table: &Table,
-    scope: &Scope,
-    k: u32,
-    slot: u32,
-    cycle: u32,
-    row: u32,
-) -> bool
-    requires cycles { k ≤ most_cycles }
-    ensures { result ≡ counts.row_has facts.now table.now k scope.now slot cycle row }
+pub fn row_has(frame: &Frame, slot: u32, cycle: u32, row: u32) -> bool
+    requires frame { IsFrame frame.now }
+    ensures { result ≡ over frame.now counts.row_has slot cycle row }
 {
-    let Some(instr) = facts.instr_at(row) else {
+    let Some(instr) = frame.facts.instr_at(row) else {
         return false;
     };
-    let Some(latency) = table.latency(instr) else {
+    let Some(latency) = frame.table.latency(instr) else {
         return false;
     };
-    let Some(first) = scope.first(row) else {
+    let Some(first) = frame.scope.first(row) else {
         return false;
     };
-    may_use(table, instr, slot) && can_begin(k, latency, first, cycle)
+    may_use(frame.table, instr, slot) && can_begin(frame.k, latency, first, cycle)
 }
 
 /// How many numbers of clusters some slot has.

@@ -1,10 +1,11 @@
 // The formula of cycles, slots and values.
 ghost use Rattle.std.specs.Prelude.{◌≡◌, ◌+◌, ◌<◌, ◌≤◌, ◌^◌, [], length, IfOk, IfErr, OnOk};
+ghost use Rattle.cycle_encoding.specs.Framed.{IsFrame, over};
 ghost use Rattle.cycle_encoding.specs.Limits.{most_vars, most_clauses};
 ghost use Rattle.schedule_meaning.specs.Limits.{most_cycles};
 ghost use Rattle.graph_meaning.specs.WellFormed.{IsLaunchGraph};
 ghost use Rattle.machine_table.specs.Tables.{IsTable};
-ghost use Rattle.cycle_encoding.specs.CycleFormula.{allocation_in, first_cycle_in, wants_in, Listed as ListedOf};
+ghost use Rattle.cycle_encoding.specs.CycleFormula.{allocation_in, first_cycle_in, Listed as ListedOf};
 ghost use Rattle.cycle_encoding.specs.Encodings.{AreListed};
 ghost use Rattle.cycle_encoding.specs.Faults.{EncodeFaultIs, IsRefusalOf};
 ghost use Rattle.cycle_encoding.specs.CycleFormula.{listed_in};
@@ -12,22 +13,21 @@ ghost use Rattle.cycle_encoding.specs.CycleFormula.{wide, before_counters, befor
 ghost use Rattle.cycle_encoding.specs.CycleFormula.{cycle_formula};
 ghost use Rattle.cycle_encoding.specs.Variables.{launches_from};
 ghost use Rattle.cycle_encoding.specs.Plans.{IsTooLarge, plan_of};
-ghost use Rattle.cycle_encoding.specs.Steps.{AreOverwrittenVars, AreSeenVars};
+ghost use Rattle.cycle_encoding.specs.FamilyVars.{AreCycleVars, listed_over};
 
 use crate::by_destination::launches_from;
-use crate::families::{add_operands, add_seen, add_targets};
+use crate::families::{CycleVars, add_operands, add_seen, add_targets};
 use crate::laws::{cycle_counts_are_found, each_encoding_has_one_list};
-use crate::overwriting::{OverwrittenVars, overwritten_vars};
+use crate::overwriting::overwritten_vars;
 use crate::plans::{EncodeFault, Encoded, VarPlan};
-use crate::seen::{SeenVars, seen_vars};
+use crate::seen::seen_vars;
 use crate::sizes::cycle_sizes;
 use crate::slots::add_slots;
-use crate::{Encoding, Facts, Scope};
+use crate::{Encoding, Facts, Frame, Scope};
 use cnf_core::{Cnf, counters_count};
 use graph_meaning::LaunchGraph;
 use items::{Items, NoMemory};
 use machine_table::Table;
-use schedule_meaning::Launch;
 use std::alloc::Global;
 
 /// The clauses of slots, latencies and values in k cycles. Its counts are found before any clause is built; where one
@@ -41,13 +41,10 @@ pub fn encode(
     requires cycles { k ≤ most_cycles }
     requires table { IsTable table.now }
     requires graph { IsLaunchGraph graph.now }
-    ensures formula { IfOk result (λ e. e.cnf
-        ≡ cycle_formula graph.now table.now k (wide graph.now table.now k)) }
+    ensures formula { IfOk result (λ e. e.cnf ≡ cycle_formula graph.now table.now k (wide graph.now table.now k)) }
     ensures plan { IfOk result (λ e. e.plan ≡ plan_of graph.now table.now k) }
-    ensures size { IfErr result (EncodeFaultIs
-        (cycle_formula graph.now table.now k (wide graph.now table.now k))) }
-    ensures within { OnOk result
-        (¬ IsTooLarge (cycle_formula graph.now table.now k (wide graph.now table.now k))) }
+    ensures size { IfErr result (EncodeFaultIs (cycle_formula graph.now table.now k (wide graph.now table.now k))) }
+    ensures within { OnOk result (¬ IsTooLarge (cycle_formula graph.now table.now k (wide graph.now table.now k))) }
 {
     encode_as(alloc, Encoding::Wide, graph, table, k)
 }
@@ -74,8 +71,7 @@ pub fn encode_as(
     }) }
     ensures size { IfErr result (λ fault. (l : ListedOf) → AreListed encoding graph.now table.now k l
         → EncodeFaultIs (cycle_formula graph.now table.now k l) fault) }
-    ensures refused { IfErr result
-        (IsRefusalOf encoding graph.now table.now k (cycle_formula graph.now table.now k)) }
+    ensures refused { IfErr result (IsRefusalOf encoding graph.now table.now k (cycle_formula graph.now table.now k)) }
     ensures within { OnOk result ((l : ListedOf) → AreListed encoding graph.now table.now k l
         → ¬ IsTooLarge (cycle_formula graph.now table.now k l)) }
 {
@@ -83,8 +79,14 @@ pub fn encode_as(
     each_encoding_has_one_list();
     let facts = Facts::new(alloc, graph)?;
     let scope = Scope::of(alloc, encoding, &facts, table)?;
-    cycle_sizes(&facts, table, &scope, k).within_limits()?;
-    Ok(build_cycles(alloc, &facts, table, &scope, k)?)
+    let frame = Frame {
+        facts: &facts,
+        table,
+        scope: &scope,
+        k,
+    };
+    cycle_sizes(&frame).within_limits()?;
+    Ok(build_cycles(alloc, &frame)?)
 }
 
 /// Makes variables.
@@ -98,79 +100,70 @@ pub fn add_vars(cnf: &mut Cnf, count: u32)
 }
 
 /// Builds the formula of a scope, whose counts are within the limits.
-pub fn build_cycles(
-    alloc: Global,
-    facts: &Facts,
-    table: &Table,
-    scope: &Scope,
-    k: u32,
-) -> Result<Encoded, NoMemory>
-    requires cycles { k ≤ most_cycles }
-    requires table { IsTable table.now }
-    requires graph { IsLaunchGraph facts.now }
-    requires vars { (cycle_formula facts.now table.now k (listed_in facts.now table.now k scope.now)).vars
+pub fn build_cycles(alloc: Global, frame: &Frame) -> Result<Encoded, NoMemory>
+    requires frame { IsFrame frame.now }
+    requires vars { (cycle_formula frame.now.facts.now frame.now.table.now frame.now.k (over frame.now listed_in)).vars
         ≤ most_vars }
-    requires clauses { length (cycle_formula facts.now table.now k
-        (listed_in facts.now table.now k scope.now)).clauses ≤ most_clauses }
+    requires clauses { length (cycle_formula frame.now.facts.now frame.now.table.now frame.now.k
+        (over frame.now listed_in)).clauses ≤ most_clauses }
     ensures formula { IfOk result (λ e. e.cnf
-        ≡ cycle_formula facts.now table.now k (listed_in facts.now table.now k scope.now)) }
+        ≡ cycle_formula frame.now.facts.now frame.now.table.now frame.now.k (over frame.now listed_in)) }
     ensures plan { IfOk result (λ e. e.plan ≡ record {
-      encoding = scope.now.encoding;
-      cycles = k;
-      launches = launches_from facts.now table.now (allocation_in scope.now) k (first_cycle_in scope.now);
-      overwritten = before_overwritten (listed_in facts.now table.now k scope.now);
+      encoding = frame.now.scope.now.encoding;
+      cycles = frame.now.k;
+      launches = launches_from frame.now.facts.now frame.now.table.now (allocation_in frame.now.scope.now) frame.now.k (first_cycle_in frame.now.scope.now);
+      overwritten = before_overwritten (over frame.now listed_in);
     }) }
 {
-    let launches = launches_from(alloc, facts, table, scope, k)?;
+    let launches = launches_from(alloc, frame)?;
     let count = launches.as_slice().len() as u32;
-    let seen = seen_vars(alloc, facts, table, scope, k, count)?;
+    let seen = seen_vars(alloc, frame, count)?;
     let before = count + seen.seen.as_slice().len() as u32;
-    let over = overwritten_vars(alloc, facts, k, before)?;
+    let over = overwritten_vars(alloc, frame.facts, frame.k, before)?;
     let mut cnf = Cnf::new(alloc);
     add_vars(&mut cnf, before + over.count());
-    add_families(
-        alloc, &mut cnf, facts, table, scope, k, &launches, &seen, &over,
-    )?;
+    let vars = CycleVars {
+        frame: *frame,
+        launches: &launches,
+        seen,
+        over,
+    };
+    add_families(alloc, &mut cnf, &vars)?;
+    drop(vars);
     Ok(Encoded {
         cnf,
-        plan: VarPlan::new(scope.encoding(), k, Items::from(launches), before),
+        plan: VarPlan::new(
+            frame.scope.encoding(),
+            frame.k,
+            Items::from(launches),
+            before,
+        ),
     })
 }
 
 /// Adds the clauses over the variables of launches, of what is seen and of what is overwritten.
-fn add_families(
-    alloc: Global,
-    cnf: &mut Cnf,
-    facts: &Facts,
-    table: &Table,
-    scope: &Scope,
-    k: u32,
-    launches: &[Launch],
-    seen: &SeenVars,
-    over: &OverwrittenVars,
-) -> Result<(), NoMemory>
-    requires table { IsTable table.now }
-    requires graph { IsLaunchGraph facts.now }
-    requires first { seen.now.first ≡ length launches.now }
-    requires next { over.now.first ≡ length launches.now + length seen.now.seen.items }
-    requires cycles { over.now.cycles ≡ k }
-    requires seen { AreSeenVars facts.now (wants_in scope.now) table.now seen.now.cycles seen.now.first
-        seen.now.seen.items seen.now.starts.items }
-    requires over { AreOverwrittenVars facts.now over.now.cycles over.now.first over.now.sets.items }
+fn add_families(alloc: Global, cnf: &mut Cnf, vars: &CycleVars) -> Result<(), NoMemory>
+    requires are { AreCycleVars vars.now }
     requires empty { cnf.old ≡ record {
-      vars = before_counters facts.now table.now k (record { allocation = allocation_in scope.now; launches = launches.now; seen = seen.now.seen.items });
+      vars = before_counters vars.now.frame.facts.now vars.now.frame.table.now vars.now.frame.k (listed_over vars.now);
       clauses = [];
     } }
-    requires vars { (cycle_formula facts.now table.now k
-        (record { allocation = allocation_in scope.now; launches = launches.now; seen = seen.now.seen.items })).vars ≤ most_vars }
-    requires clauses { length (cycle_formula facts.now table.now k
-        (record { allocation = allocation_in scope.now; launches = launches.now; seen = seen.now.seen.items })).clauses ≤ most_clauses }
-    ensures { OnOk result (cnf.new ≡ cycle_formula facts.now table.now k
-        (record { allocation = allocation_in scope.now; launches = launches.now; seen = seen.now.seen.items })) }
+    requires vars { (cycle_formula vars.now.frame.facts.now vars.now.frame.table.now vars.now.frame.k
+        (listed_over vars.now)).vars ≤ most_vars }
+    requires clauses { length (cycle_formula vars.now.frame.facts.now vars.now.frame.table.now vars.now.frame.k
+        (listed_over vars.now)).clauses ≤ most_clauses }
+    ensures { OnOk result (cnf.new ≡ cycle_formula vars.now.frame.facts.now vars.now.frame.table.now vars.now.frame.k
+        (listed_over vars.now)) }
 {
     counters_count();
-    add_targets(alloc, cnf, facts, launches, over)?;
-    add_operands(alloc, cnf, facts, table, scope, launches, seen, over)?;
-    add_seen(alloc, cnf, facts, table, launches, seen)?;
-    add_slots(alloc, cnf, launches, table.slots.len() as u32, k)
+    add_targets(alloc, cnf, vars)?;
+    add_operands(alloc, cnf, vars)?;
+    add_seen(alloc, cnf, vars)?;
+    add_slots(
+        alloc,
+        cnf,
+        vars.launches,
+        vars.frame.table.slots.len() as u32,
+        vars.frame.k,
+    )
 }

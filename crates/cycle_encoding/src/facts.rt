@@ -1,18 +1,15 @@
 // What a graph says of its classes and rows, in tables.
 ghost use Rattle.std.specs.Prelude.{◌≡◌, ◌==◌, ◌+◌, ◌<◌, ◌≤◌, ◌^◌, ◌&&◌, ◌++◌, ◌∷◌, [], false, IfOk, OnOk, is_some};
 ghost use Rattle.std.specs.Prelude.{if◌then◌else◌, length};
-ghost use Rattle.std.specs.Option.{option_map_or};
 ghost use Rattle.word_ops.specs.Meanings as meanings;
 ghost use Rattle.graph_meaning.specs.Graphs as graphs;
 ghost use Rattle.graph_meaning.specs.WellFormed as wellformed;
 ghost use Rattle.graph_meaning.specs.WellFormed.{IsLaunchGraph};
 ghost use Rattle.schedule_meaning.specs.Launches as launches;
-ghost use Rattle.schedule_meaning.specs.declared.schedules.To.TheVariants.{Set as SetTo};
 ghost use Rattle.schedule_meaning.specs.Readers.{operand_of};
 ghost use Rattle.cycle_encoding.specs.Facts.{IsTableOf};
 ghost use Rattle.cycle_encoding.specs.Wanting.{is_wanted_target};
 ghost use Rattle.cycle_encoding.specs.Families as families;
-ghost use Rattle.cycle_encoding.specs.Facts as specs;
 ghost use Rattle.cycle_encoding.specs.Variables as variables;
 
 use crate::marks::{filled, give_constant, mark};

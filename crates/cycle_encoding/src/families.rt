@@ -7,27 +7,36 @@ ghost use Rattle.graph_meaning.specs.WellFormed.{IsLaunchGraph};
 ghost use Rattle.schedule_meaning.specs.Launches as launches;
 ghost use Rattle.schedule_meaning.specs.Launches.{gives};
 ghost use Rattle.machine_table.specs.Tables as tables;
-ghost use Rattle.cycle_encoding.specs.CycleFormula.{wants_in};
 ghost use Rattle.cycle_encoding.specs.Facts.{IsTableOf};
-ghost use Rattle.cycle_encoding.specs.Families.{makes, seen_clauses};
-ghost use Rattle.cycle_encoding.specs.Families.{is_lost, operand_clauses, target_clauses};
-ghost use Rattle.cycle_encoding.specs.Variables.{all_overwritten};
-ghost use Rattle.cycle_encoding.specs.Shapes.{negated, negative, numbered, positive, vars_of};
-ghost use Rattle.cycle_encoding.specs.Steps.{AreOverwrittenVars, AreSeenVars, given_in, target_groups, is_ready};
+ghost use Rattle.cycle_encoding.specs.Families.{makes};
+ghost use Rattle.cycle_encoding.specs.FamilyVars.{overwritten_over, seen_over, targets_over};
+ghost use Rattle.cycle_encoding.specs.FamilyVars.{AreCycleVars, last_over, launched_over, makers_over, operands_over};
+ghost use Rattle.cycle_encoding.specs.Shapes.{negative, positive, vars_of};
+ghost use Rattle.cycle_encoding.specs.Steps.{given_in, target_groups, is_ready};
 ghost use Rattle.cycle_encoding.specs.Steps.{of_thing, put_at, sights, with_clauses};
 
 use crate::buckets::{empty_lists, put_into};
 use crate::facts::next_class;
 use crate::needed::needed_operands;
 use crate::overwriting::{OverwrittenVars, push_lost, reads_until};
-use crate::seen::{Seen, SeenVars, seen_var};
-use crate::{Facts, Scope};
+use crate::seen::{SeenVars, Sight, seen_var};
+use crate::{Facts, Frame, Made};
 use cnf_core::{Cnf, Lit};
 use graph_meaning::SetClass;
 use items::{Items, NoMemory};
 use machine_table::Table;
 use schedule_meaning::{Launch, class_at, cluster_of, gives, gives_word, ready_in};
 use std::alloc::Global;
+
+/// The variables over which the clauses of cycles are: those of launches, the first ones, of what is seen, and of what
+/// is overwritten.
+#[derive(Drop)]
+pub struct CycleVars<'a> {
+    pub frame: Frame<'a>,
+    pub launches: &'a [Launch],
+    pub seen: SeenVars,
+    pub over: OverwrittenVars,
+}
 
 /// The launches that give a class, with their variables.
 pub fn giving(
@@ -63,24 +72,15 @@ fn push_giving(
 }
 
 /// Adds a clause for each target without a pin that has to be made.
-pub fn add_targets(
-    alloc: Global,
-    cnf: &mut Cnf,
-    facts: &Facts,
-    launches: &[Launch],
-    over: &OverwrittenVars,
-) -> Result<(), NoMemory>
-    requires launches { length launches.now ≤ cnf.old.vars }
-    requires over { AreOverwrittenVars facts.now over.now.cycles over.now.first over.now.sets.items }
-    requires exist { over.now.first + length (all_overwritten facts.now over.now.cycles) ≤ cnf.old.vars }
+pub fn add_targets(alloc: Global, cnf: &mut Cnf, vars: &CycleVars) -> Result<(), NoMemory>
+    requires vars { AreCycleVars vars.now }
+    requires exist { last_over vars.now ≤ cnf.old.vars }
     requires few { cnf.old.vars < 2 ^ 29 }
-    requires room { length cnf.old.clauses + length (target_clauses facts.now over.now.cycles (numbered 0 launches.now)
-        (numbered over.now.first (all_overwritten facts.now over.now.cycles))) < 2 ^ 30 }
-    ensures { OnOk result (cnf.new ≡ with_clauses cnf.old (target_clauses facts.now over.now.cycles
-        (numbered 0 launches.now) (numbered over.now.first (all_overwritten facts.now over.now.cycles)))) }
+    requires room { length cnf.old.clauses + length (targets_over vars.now) < 2 ^ 30 }
+    ensures { OnOk result (cnf.new ≡ with_clauses cnf.old (targets_over vars.now)) }
 {
-    for set in facts.graph().sets.as_slice() {
-        add_target(alloc, cnf, facts, launches, over, set)?;
+    for set in vars.frame.facts.graph().sets.as_slice() {
+        add_target(alloc, cnf, vars, set)?;
     }
     Ok(())
 }
@@ -88,27 +88,29 @@ pub fn add_targets(
 fn add_target(
     alloc: Global,
     cnf: &mut Cnf,
-    facts: &Facts,
-    launches: &[Launch],
-    over: &OverwrittenVars,
+    vars: &CycleVars,
     set: &SetClass,
 ) -> Result<(), NoMemory>
-    requires launches { length launches.now ≤ cnf.old.vars }
-    requires over { AreOverwrittenVars facts.now over.now.cycles over.now.first over.now.sets.items }
-    requires exist { over.now.first + length (all_overwritten facts.now over.now.cycles) ≤ cnf.old.vars }
+    requires vars { AreCycleVars vars.now }
+    requires exist { last_over vars.now ≤ cnf.old.vars }
     requires few { cnf.old.vars < 2 ^ 29 }
-    requires room { length cnf.old.clauses + length (target_groups facts.now over.now.cycles (numbered 0 launches.now)
-        (numbered over.now.first (all_overwritten facts.now over.now.cycles)) (set.now ∷ [])) < 2 ^ 30 }
-    ensures { OnOk result (cnf.new ≡ with_clauses cnf.old (target_groups facts.now over.now.cycles
-        (numbered 0 launches.now) (numbered over.now.first (all_overwritten facts.now over.now.cycles))
-        (set.now ∷ []))) }
+    requires room { length cnf.old.clauses + length (target_groups vars.now.frame.facts.now vars.now.over.cycles
+        (launched_over vars.now) (overwritten_over vars.now) (set.now ∷ [])) < 2 ^ 30 }
+    ensures { OnOk result (cnf.new ≡ with_clauses cnf.old (target_groups vars.now.frame.facts.now vars.now.over.cycles
+        (launched_over vars.now) (overwritten_over vars.now) (set.now ∷ []))) }
 {
-    if !facts.is_needed_target(set) {
+    if !vars.frame.facts.is_needed_target(set) {
         return Ok(());
     }
-    let given = giving(alloc, facts, launches, set.class)?;
+    let given = giving(alloc, vars.frame.facts, vars.launches, set.class)?;
     let mut clause = variables(alloc, &given)?;
-    push_lost(&mut clause, facts, over, set.class, u64::from(over.cycles))?;
+    push_lost(
+        &mut clause,
+        vars.frame.facts,
+        &vars.over,
+        set.class,
+        u64::from(vars.over.cycles),
+    )?;
     cnf.add(&clause)
 }
 
@@ -127,37 +129,20 @@ pub fn variables(alloc: Global, given: &[(u32, Launch)]) -> Result<Vec<Lit>, NoM
 }
 
 /// Adds a clause for each launch and each operand that it needs.
-pub fn add_operands(
-    alloc: Global,
-    cnf: &mut Cnf,
-    facts: &Facts,
-    table: &Table,
-    scope: &Scope,
-    launches: &[Launch],
-    seen: &SeenVars,
-    over: &OverwrittenVars,
-) -> Result<(), NoMemory>
-    requires first { length launches.now ≡ seen.now.first }
-    requires next { seen.now.first + length seen.now.seen.items ≡ over.now.first }
-    requires exist { over.now.first + length (all_overwritten facts.now over.now.cycles) ≤ cnf.old.vars }
+pub fn add_operands(alloc: Global, cnf: &mut Cnf, vars: &CycleVars) -> Result<(), NoMemory>
+    requires vars { AreCycleVars vars.now }
+    requires exist { last_over vars.now ≤ cnf.old.vars }
     requires few { cnf.old.vars < 2 ^ 29 }
-    requires seen { AreSeenVars facts.now (wants_in scope.now) table.now seen.now.cycles seen.now.first
-        seen.now.seen.items seen.now.starts.items }
-    requires over { AreOverwrittenVars facts.now over.now.cycles over.now.first over.now.sets.items }
-    requires room { length cnf.old.clauses
-        + length (operand_clauses facts.now table.now (numbered 0 launches.now)
-        (numbered seen.now.first seen.now.seen.items)
-        (numbered over.now.first (all_overwritten facts.now over.now.cycles))) < 2 ^ 30 }
-    ensures { OnOk result (cnf.new ≡ with_clauses cnf.old (operand_clauses facts.now table.now (numbered 0 launches.now)
-        (numbered seen.now.first seen.now.seen.items)
-        (numbered over.now.first (all_overwritten facts.now over.now.cycles)))) }
+    requires room { length cnf.old.clauses + length (operands_over vars.now) < 2 ^ 30 }
+    ensures { OnOk result (cnf.new ≡ with_clauses cnf.old (operands_over vars.now)) }
 {
-    for (index, launch) in launches.iter().enumerate() {
-        let needed = needed_operands(alloc, facts, *launch)?;
-        let var = index as u32 + 1;
-        add_sights(
-            alloc, cnf, facts, table, scope, &needed, seen, over, var, *launch,
-        )?;
+    for (index, launch) in vars.launches.iter().enumerate() {
+        let needed = needed_operands(alloc, vars.frame.facts, *launch)?;
+        let made = Made {
+            var: index as u32 + 1,
+            launch: *launch,
+        };
+        add_sights(alloc, cnf, vars, &needed, made)?;
     }
     Ok(())
 }
@@ -167,58 +152,31 @@ pub fn add_operands(
 fn add_sights(
     alloc: Global,
     cnf: &mut Cnf,
-    facts: &Facts,
-    table: &Table,
-    scope: &Scope,
+    vars: &CycleVars,
     needed: &[u32],
-    seen: &SeenVars,
-    over: &OverwrittenVars,
-    var: u32,
-    launch: Launch,
+    made: Made,
 ) -> Result<(), NoMemory>
-    requires var { 1 ≤ var }
-    requires within { var ≤ seen.now.first }
-    requires next { seen.now.first + length seen.now.seen.items ≡ over.now.first }
-    requires exist { over.now.first + length (all_overwritten facts.now over.now.cycles) ≤ cnf.old.vars }
+    requires var { 1 ≤ made.var }
+    requires within { made.var ≤ vars.now.seen.first }
+    requires vars { AreCycleVars vars.now }
+    requires exist { last_over vars.now ≤ cnf.old.vars }
     requires few { cnf.old.vars < 2 ^ 29 }
-    requires seen { AreSeenVars facts.now (wants_in scope.now) table.now seen.now.cycles seen.now.first
-        seen.now.seen.items seen.now.starts.items }
-    requires over { AreOverwrittenVars facts.now over.now.cycles over.now.first over.now.sets.items }
     requires room { length cnf.old.clauses + length needed.now < 2 ^ 30 }
-    ensures { OnOk result (cnf.new ≡ with_clauses cnf.old (of_thing var
-        (sights facts.now (tables.cluster_of table.now launch.slot) launch.cycle (launches.reads_until facts.now launch)
-        (numbered seen.now.first seen.now.seen.items)
-        (numbered over.now.first (all_overwritten facts.now over.now.cycles)) needed.now))) }
+    ensures { OnOk result (cnf.new ≡ with_clauses cnf.old
+        (of_thing made.var (sights vars.now.frame.facts.now
+        (tables.cluster_of vars.now.frame.table.now made.launch.slot) made.launch.cycle
+        (launches.reads_until vars.now.frame.facts.now made.launch) (seen_over vars.now) (overwritten_over vars.now)
+        needed.now))) }
 {
-    let cluster = cluster_of(table, launch.slot);
-    let until = reads_until(facts, launch);
+    let cluster = cluster_of(vars.frame.table, made.launch.slot);
+    let until = reads_until(vars.frame.facts, made.launch);
     for class in needed {
-        let sight = seen_var(seen, facts, table, scope, *class, cluster, launch.cycle);
-        let clause = sight_or_lost(alloc, facts, over, var, sight, *class, until)?;
+        let sight = seen_var(&vars.seen, &vars.frame, *class, cluster, made.launch.cycle);
+        let mut clause = implied_literal(alloc, made.var, sight)?;
+        push_lost(&mut clause, vars.frame.facts, &vars.over, *class, until)?;
         cnf.add(&clause)?;
     }
     Ok(())
-}
-
-/// The clause that a variable implies a literal, if there is one, or that some input's register of the class isn't
-/// overwritten below the cycle.
-fn sight_or_lost(
-    alloc: Global,
-    facts: &Facts,
-    over: &OverwrittenVars,
-    var: u32,
-    sight: Option<Lit>,
-    class: u32,
-    until: u64,
-) -> Result<Vec<Lit>, NoMemory>
-    requires over { AreOverwrittenVars facts.now over.now.cycles over.now.first over.now.sets.items }
-    ensures { IfOk result (λ clause. clause.items ≡ negative var ∷ (option_to_list sight
-        ++ negated (is_lost facts.now class until)
-        (numbered over.now.first (all_overwritten facts.now over.now.cycles)))) }
-{
-    let mut clause = implied_literal(alloc, var, sight)?;
-    push_lost(&mut clause, facts, over, class, until)?;
-    Ok(clause)
 }
 
 /// The clause that a variable implies a literal, or that it is false where there is none.
@@ -255,28 +213,18 @@ pub fn add_implied(cnf: &mut Cnf, var: u32, lit: Option<Lit>) -> Result<(), NoMe
 }
 
 /// Adds for each thing that is seen the clause that it was made.
-pub fn add_seen(
-    alloc: Global,
-    cnf: &mut Cnf,
-    facts: &Facts,
-    table: &Table,
-    launches: &[Launch],
-    seen: &SeenVars,
-) -> Result<(), NoMemory>
-    requires graph { IsLaunchGraph facts.now }
-    requires first { length launches.now ≡ seen.now.first }
-    requires exist { seen.now.first + length seen.now.seen.items ≤ cnf.old.vars }
+pub fn add_seen(alloc: Global, cnf: &mut Cnf, vars: &CycleVars) -> Result<(), NoMemory>
+    requires vars { AreCycleVars vars.now }
+    requires exist { vars.now.seen.first + length vars.now.seen.seen.items ≤ cnf.old.vars }
     requires few { cnf.old.vars < 2 ^ 29 }
-    requires room { length cnf.old.clauses
-        + length (seen_clauses facts.now table.now (numbered 0 launches.now)
-        (numbered seen.now.first seen.now.seen.items)) < 2 ^ 30 }
-    ensures { OnOk result (cnf.new ≡ with_clauses cnf.old
-        (seen_clauses facts.now table.now (numbered 0 launches.now) (numbered seen.now.first seen.now.seen.items))) }
+    requires room { length cnf.old.clauses + length (makers_over vars.now) < 2 ^ 30 }
+    ensures { OnOk result (cnf.new ≡ with_clauses cnf.old (makers_over vars.now)) }
 {
-    let makers = makers(alloc, facts, launches)?;
-    for (index, thing) in seen.seen.as_slice().iter().enumerate() {
-        let var = seen.first + index as u32 + 1;
-        add_thing(alloc, cnf, facts, table, launches, &makers, var, *thing)?;
+    let makers = makers(alloc, vars.frame.facts, vars.launches)?;
+    for (index, thing) in vars.seen.seen.as_slice().iter().enumerate() {
+        let var = vars.seen.first + index as u32 + 1;
+        let sight = Sight { var, thing: *thing };
+        add_thing(alloc, cnf, vars, &makers, sight)?;
     }
     Ok(())
 }
@@ -285,35 +233,24 @@ pub fn add_seen(
 fn add_thing(
     alloc: Global,
     cnf: &mut Cnf,
-    facts: &Facts,
-    table: &Table,
-    launches: &[Launch],
+    vars: &CycleVars,
     makers: &[Items<(u32, Launch)>],
-    var: u32,
-    thing: Seen,
+    sight: Sight,
 ) -> Result<(), NoMemory>
-    requires var { IsLitOf cnf.old.vars (negative var) }
-    requires makers { IsTableOf (λ class. given_in facts.now class launches.now) makers.now }
-    requires exist { length launches.now ≤ cnf.old.vars }
+    requires var { IsLitOf cnf.old.vars (negative sight.var) }
+    requires makers { IsTableOf (λ class. given_in vars.now.frame.facts.now class vars.now.launches.now) makers.now }
+    requires exist { length vars.now.launches.now ≤ cnf.old.vars }
     requires few { cnf.old.vars < 2 ^ 29 }
     requires room { length cnf.old.clauses < 2 ^ 30 }
     ensures { OnOk result (cnf.new ≡ with_clauses cnf.old
-        ((negative var ∷ vars_of (makes facts.now table.now thing) (numbered 0 launches.now)) ∷ [])) }
+        ((negative sight.var ∷ vars_of (makes vars.now.frame.facts.now vars.now.frame.table.now sight.thing)
+        (launched_over vars.now)) ∷ [])) }
 {
-    match makers.get(thing.class as usize) {
-        Some(given) => add_sight(
-            alloc,
-            cnf,
-            facts,
-            table,
-            launches,
-            given.as_slice(),
-            var,
-            thing,
-        ),
+    match makers.get(sight.thing.class as usize) {
+        Some(given) => add_sight(alloc, cnf, vars, given.as_slice(), sight),
         None => {
-            let given = giving(alloc, facts, launches, thing.class)?;
-            add_sight(alloc, cnf, facts, table, launches, &given, var, thing)
+            let given = giving(alloc, vars.frame.facts, vars.launches, sight.thing.class)?;
+            add_sight(alloc, cnf, vars, &given, sight)
         }
     }
 }
@@ -326,8 +263,7 @@ fn makers(
 ) -> Result<Vec<Items<(u32, Launch)>>, NoMemory>
     requires graph { IsLaunchGraph facts.now }
     requires few { length launches.now < 2 ^ 29 }
-    ensures { IfOk result (λ makers. IsTableOf
-        (λ class. given_in facts.now class launches.now) makers.items) }
+    ensures { IfOk result (λ makers. IsTableOf (λ class. given_in facts.now class launches.now) makers.items) }
 {
     let mut makers = empty_lists(alloc, next_class(facts.graph()))?;
     for (index, launch) in launches.iter().enumerate() {
@@ -356,44 +292,44 @@ fn put_maker(
 fn add_sight(
     alloc: Global,
     cnf: &mut Cnf,
-    facts: &Facts,
-    table: &Table,
-    launches: &[Launch],
+    vars: &CycleVars,
     given: &[(u32, Launch)],
-    var: u32,
-    thing: Seen,
+    sight: Sight,
 ) -> Result<(), NoMemory>
-    requires var { IsLitOf cnf.old.vars (negative var) }
-    requires given { given.now ≡ given_in facts.now thing.class launches.now }
-    requires exist { length launches.now ≤ cnf.old.vars }
+    requires var { IsLitOf cnf.old.vars (negative sight.var) }
+    requires given { given.now ≡ given_in vars.now.frame.facts.now sight.thing.class vars.now.launches.now }
+    requires exist { length vars.now.launches.now ≤ cnf.old.vars }
     requires room { length cnf.old.clauses < 2 ^ 30 }
     ensures { OnOk result (cnf.new ≡ with_clauses cnf.old
-        ((negative var ∷ vars_of (makes facts.now table.now thing) (numbered 0 launches.now)) ∷ [])) }
+        ((negative sight.var ∷ vars_of (makes vars.now.frame.facts.now vars.now.frame.table.now sight.thing)
+        (launched_over vars.now)) ∷ [])) }
 {
-    let clause = sight_clause(alloc, facts, table, given, var, thing)?;
+    let clause = sight_clause(alloc, &vars.frame, given, sight)?;
     cnf.add(&clause)
 }
 
 /// The clause that what is seen was made by one of these launches, that is ready where it is seen.
 fn sight_clause(
     alloc: Global,
-    facts: &Facts,
-    table: &Table,
+    frame: &Frame,
     given: &[(u32, Launch)],
-    var: u32,
-    thing: Seen,
+    sight: Sight,
 ) -> Result<Vec<Lit>, NoMemory>
-    ensures { IfOk result (λ clause. clause.items ≡ negative var
-        ∷ map (λ p. positive p.0) (filter (λ p. is_ready facts.now table.now thing p.1) given.now)) }
+    ensures { IfOk result (λ clause. clause.items ≡ negative sight.var ∷ map (λ p. positive p.0)
+        (filter (λ p. is_ready frame.now.facts.now frame.now.table.now sight.thing p.1) given.now)) }
 {
     let mut clause = Vec::new(alloc);
     clause.push(Lit {
-        var,
+        var: sight.var,
         positive: false,
     })?;
     for (maker, launch) in given {
-        if ready_in(table, thing.cluster, *launch, facts.instr_at(launch.row))
-            <= u64::from(thing.cycle)
+        if ready_in(
+            frame.table,
+            sight.thing.cluster,
+            *launch,
+            frame.facts.instr_at(launch.row),
+        ) <= u64::from(sight.thing.cycle)
         {
             clause.push(Lit {
                 var: *maker,

@@ -4,6 +4,14 @@ ghost use Rattle.schedule_meaning.specs.Limits.{most_cycles};
 ghost use Rattle.cycle_encoding.specs.Facts as facts;
 
 use machine_table::{InstrKind, Table};
+use schedule_meaning::Launch;
+
+/// A launch, with its variable.
+#[derive(Clone, Copy)]
+pub struct Made {
+    pub var: u32,
+    pub launch: Launch,
+}
 
 /// In how many cycles an instruction can begin, from a first one, that ends by k.
 pub fn cycles(k: u32, latency: u32, first: u32) -> u32

@@ -54,22 +54,19 @@ pub fn parts_keep_rules()
 /// that keep them are in slots of the table and in the k cycles.
 pub fn cycle_clauses_say_rules()
     ensures shown { (g : Graph) (table : TableOf) (a : AllocationOf) (k : ℕ) (l : ListedOf) (v : ℕ → Bool)
-        → IsTable table → IsLaunchGraph g
-        → IsPinnedList g table a k l → Satisfies v (cycle_formula g table k l).clauses
-        → ArePinsKept g k (shown v (launch_vars l)) (shown v (overwritten_vars g table k l))
-        → KeepsCycleRules g table a k (shown v (launch_vars l)) }
+        → IsTable table → IsLaunchGraph g → IsPinnedList g table a k l → Satisfies v (cycle_formula g table k l).clauses
+        → ArePinsKept g k (shown v (launch_vars l)) (shown v (overwritten_vars g table k l)) → KeepsCycleRules g table a
+        k (shown v (launch_vars l)) }
     ensures apart { (g : Graph) (table : TableOf) (a : AllocationOf) (k : ℕ) (l : ListedOf) (v : ℕ → Bool)
-        → IsTable table → IsLaunchGraph g
-        → IsPinnedList g table a k l → Satisfies v (cycle_formula g table k l).clauses
+        → IsTable table → IsLaunchGraph g → IsPinnedList g table a k l → Satisfies v (cycle_formula g table k l).clauses
         → AllPairs (λ x y. ¬ Collide x y) (shown v (launch_vars l)) }
     ensures all_apart { (g : Graph) (table : TableOf) (k : ℕ) (v : ℕ → Bool) → IsTable table → IsLaunchGraph g
         → Satisfies v (cycle_formula g table k (wide g table k)).clauses
         → AllPairs (λ x y. ¬ Collide x y) (shown v (launch_vars (wide g table k))) }
-    ensures all { (g : Graph) (table : TableOf) (k : ℕ) (v : ℕ → Bool) → IsTable table → IsLaunchGraph g
-        → Satisfies v (cycle_formula g table k (wide g table k)).clauses
-        → ArePinsKept g k (shown v (launch_vars (wide g table k)))
-        (shown v (overwritten_vars g table k (wide g table k)))
-        → KeepsCycleRules g table Block k (shown v (launch_vars (wide g table k))) }
+    ensures all { (g : Graph) (table : TableOf) (k : ℕ) (v : ℕ → Bool) → IsTable table → IsLaunchGraph g → Satisfies v
+        (cycle_formula g table k (wide g table k)).clauses → ArePinsKept g k (shown v (launch_vars (wide g table k)))
+        (shown v (overwritten_vars g table k (wide g table k))) → KeepsCycleRules g table Block k
+        (shown v (launch_vars (wide g table k))) }
     ensures each { (g : Graph) (table : TableOf) (k : ℕ) (ls : List LaunchOf) → IsTable table → IsLaunchGraph g
         → KeepsCycleRules g table Block k ls → AreShown g table k (wide g table k) ls }
     ensures places { (g : Graph) (table : TableOf) (a : AllocationOf) (k : ℕ) (ls : List LaunchOf) → IsTable table
@@ -82,9 +79,8 @@ pub fn cycle_clauses_say_rules()
 pub fn cycle_counts_are_found()
     ensures vars { (g : Graph) (table : TableOf) (k : ℕ) (s : ScopeOf)
         → (cycle_formula g table k (listed_in g table k s)).vars ≡ cycle_vars g table k s }
-    ensures clauses { (g : Graph) (table : TableOf) (k : ℕ) (s : ScopeOf)
-        → length (cycle_formula g table k (listed_in g table k s)).clauses
-        ≡ cycle_size g table k s }
+    ensures clauses { (g : Graph) (table : TableOf) (k : ℕ) (s : ScopeOf) → length
+        (cycle_formula g table k (listed_in g table k s)).clauses ≡ cycle_size g table k s }
 {
     counters_count();
 }

@@ -40,6 +40,7 @@ mod encoding;
 mod encodings;
 mod facts;
 mod families;
+mod frames;
 mod launches;
 mod laws;
 mod marks;
@@ -62,7 +63,8 @@ pub use encoding::{add_vars, build_cycles, encode, encode_as};
 pub use encodings::Encoding;
 pub use facts::{Facts, next_class};
 pub use families::{add_implied, variables};
-pub use launches::{can_begin, may_use};
+pub use frames::Frame;
+pub use launches::{Made, can_begin, may_use};
 pub use laws::{
     cycle_clauses_say_rules, cycle_counts_are_found, each_encoding_has_one_list, parts_keep_rules,
 };

@@ -2,20 +2,19 @@
 ghost use Rattle.std.specs.Prelude.{◌≡◌, ◌*◌, ◌<◌, ◌≤◌, ◌^◌, false, slice_get};
 ghost use Rattle.std.specs.Option.{option_map_or};
 ghost use Rattle.std.specs.List.{count_by, sum_by};
-ghost use Rattle.schedule_meaning.specs.Limits.{most_cycles};
 ghost use Rattle.graph_meaning.specs.WellFormed.{IsLaunchGraph};
-ghost use Rattle.machine_table.specs.Tables.{IsTable};
 ghost use Rattle.schedule_meaning.specs.Launches.{operands_at, pin_of};
 ghost use Rattle.schedule_meaning.specs.Readers.{operand_of};
 ghost use Rattle.schedule_meaning.specs.declared.schedules.To.TheVariants.{Set as SetTo};
+ghost use Rattle.cycle_encoding.specs.Framed.{IsFrame, over};
 ghost use Rattle.cycle_encoding.specs.Counts as counts;
 ghost use Rattle.cycle_encoding.specs.Families as families;
 ghost use Rattle.cycle_encoding.specs.Variables as variables;
 
 use crate::counts::row_count;
 use crate::reaching::takes;
-use crate::{Facts, Scope};
-use machine_table::{InstrKind, Table};
+use crate::{Facts, Frame};
+use machine_table::InstrKind;
 use schedule_meaning::{Allocation, To, class_at, gives_word, operand_at, operand_count, pin_of};
 
 /// Whether some input of the class has the register.
@@ -83,9 +82,8 @@ fn needed_count(facts: &Facts, to: To, row: u32) -> u64
 /// The same for those of all pinned sets.
 fn set_needs(facts: &Facts, allocation: Allocation, instr: InstrKind, class: u32, row: u32) -> u64
     requires graph { IsLaunchGraph facts.now }
-    ensures value { result ≡ sum_by (λ j. counts.one_if (variables.takes facts.now allocation instr class j)
-        * count_by (counts.needs_clause facts.now (SetTo j)) (operands_at facts.now row))
-        (variables.pinned_sets facts.now) }
+    ensures value { result ≡ sum_by (λ j. counts.one_if (variables.takes facts.now allocation instr class j) * count_by
+        (counts.needs_clause facts.now (SetTo j)) (operands_at facts.now row)) (variables.pinned_sets facts.now) }
     ensures few { result ≤ 124 }
 {
     let mut count = 0;
@@ -101,8 +99,7 @@ fn set_needs(facts: &Facts, allocation: Allocation, instr: InstrKind, class: u32
 #[tactic(auto, using(crate::proofs::RowPlaces::sum_all, crate::proofs::RowPlaces::sum_pool, crate::proofs::RowPlaces::sum_none))]
 fn row_needs(facts: &Facts, allocation: Allocation, row: u32) -> u64
     requires graph { IsLaunchGraph facts.now }
-    ensures value { result
-        ≡ sum_by (λ to. count_by (counts.needs_clause facts.now to) (operands_at facts.now row))
+    ensures value { result ≡ sum_by (λ to. count_by (counts.needs_clause facts.now to) (operands_at facts.now row))
         (counts.row_destinations facts.now allocation row) }
     ensures few { result ≤ 128 }
 {
@@ -119,17 +116,16 @@ fn row_needs(facts: &Facts, allocation: Allocation, row: u32) -> u64
 
 /// How many clauses say that launches see their operands.
 #[tactic(auto, using(crate::proofs::Tallies::sum_more))]
-pub fn needs_count(facts: &Facts, table: &Table, scope: &Scope, k: u32) -> u64
-    requires graph { IsLaunchGraph facts.now }
-    requires table { IsTable table.now }
-    requires cycles { k ≤ most_cycles }
-    ensures value { result ≡ counts.sum_destined facts.now table.now k scope.now
-        (λ row to. count_by (counts.needs_clause facts.now to) (operands_at facts.now row)) }
+pub fn needs_count(frame: &Frame) -> u64
+    requires frame { IsFrame frame.now }
+    ensures value { result ≡ over frame.now counts.sum_destined
+        (λ row to. count_by (counts.needs_clause frame.now.facts.now to) (operands_at frame.now.facts.now row)) }
     ensures few { result < 2 ^ 46 }
 {
     let mut count = 0;
-    for row in 0..facts.row_numbers() {
-        count += row_count(facts, table, scope, k, row) * row_needs(facts, scope.allocation(), row);
+    for row in 0..frame.facts.row_numbers() {
+        count += row_count(frame.facts, frame.table, frame.scope, frame.k, row)
+            * row_needs(frame.facts, frame.scope.allocation(), row);
     }
     count
 }

@@ -45,8 +45,7 @@ pub fn awaited(
     allocation: Allocation,
 ) -> Result<Vec<Items<u32>>, NoMemory>
     requires rows { length facts.now.rows < 2 ^ 30 }
-    ensures { IfOk result (λ awaited. awaited.items
-        ≡ map (start_needs facts.now allocation) (row_numbers facts.now)) }
+    ensures { IfOk result (λ awaited. awaited.items ≡ map (start_needs facts.now allocation) (row_numbers facts.now)) }
 {
     let mut awaited = Vec::new(alloc);
     for row in 0..facts.row_numbers() {
@@ -64,8 +63,7 @@ fn push_memory(
     allocation: Allocation,
     row: u32,
 ) -> Result<(), NoMemory>
-    ensures { OnOk result
-        (awaited.new.items ≡ awaited.old.items ++ memory_needs facts.now allocation row) }
+    ensures { OnOk result (awaited.new.items ≡ awaited.old.items ++ memory_needs facts.now allocation row) }
 {
     let class = memory_class_at(facts.graph(), row);
     if allocation == Allocation::Live && accesses(facts, row) && class != facts.graph().entry {

@@ -3,7 +3,7 @@ ghost use Rattle.std.specs.Prelude.{◌≡◌, ◌+◌, ◌*◌, ◌<◌, ◌≤
 ghost use Rattle.schedule_meaning.specs.Limits.{most_cycles};
 ghost use Rattle.schedule_meaning.specs.Launches as launches;
 ghost use Rattle.cycle_encoding.specs.Families.{is_lost};
-ghost use Rattle.cycle_encoding.specs.Variables.{all_overwritten, is_overwriting as is_over, overwriting_sets};
+ghost use Rattle.cycle_encoding.specs.Variables.{all_overwritten, overwriting_sets};
 ghost use Rattle.cycle_encoding.specs.Shapes.{negated, numbered};
 ghost use Rattle.cycle_encoding.specs.Steps.{AreOverwrittenVars, set_overwritten};
 
@@ -22,6 +22,14 @@ pub struct OverwrittenVars {
     pub first: u32,
     pub cycles: u32,
     pub sets: Vec<u32>,
+}
+
+/// The variables of one set: that of its first cycle is the one after `first`.
+#[derive(Clone, Copy)]
+struct SetVars {
+    first: u32,
+    cycles: u32,
+    set: u32,
 }
 
 /// All that may be overwritten in k cycles: by set, those alone that are pinned to an input's register, then by cycle.
@@ -81,39 +89,41 @@ pub fn push_lost(
     cycle: u64,
 ) -> Result<(), NoMemory>
     requires vars { AreOverwrittenVars facts.now vars.now.cycles vars.now.first vars.now.sets.items }
-    ensures { OnOk result (clause.new.items ≡ clause.old.items
-        ++ negated (is_lost facts.now class cycle)
+    ensures { OnOk result (clause.new.items ≡ clause.old.items ++ negated (is_lost facts.now class cycle)
         (numbered vars.now.first (all_overwritten facts.now vars.now.cycles))) }
 {
     for (place, set) in vars.sets.as_slice().iter().enumerate() {
         let first = vars.first + place as u32 * (vars.cycles + 1);
-        push_lost_of(clause, facts, first, vars.cycles, class, cycle, *set)?;
+        let one = SetVars {
+            first,
+            cycles: vars.cycles,
+            set: *set,
+        };
+        push_lost_of(clause, facts, one, class, cycle)?;
     }
     Ok(())
 }
 
-/// The same for the register of one set. The variable of its first cycle is the one after `first`.
+/// The same for the register of one set.
 fn push_lost_of(
     clause: &mut Vec<Lit>,
     facts: &Facts,
-    first: u32,
-    k: u32,
+    one: SetVars,
     class: u32,
     cycle: u64,
-    set: u32,
 ) -> Result<(), NoMemory>
-    requires few { first + k + 1 < 2 ^ 29 }
+    requires few { one.first + one.cycles + 1 < 2 ^ 29 }
     ensures { OnOk result (clause.new.items ≡ clause.old.items
-        ++ negated (is_lost facts.now class cycle) (numbered first (set_overwritten k set))) }
+        ++ negated (is_lost facts.now class cycle) (numbered one.first (set_overwritten one.cycles one.set))) }
 {
-    if cycle > u64::from(k) {
+    if cycle > u64::from(one.cycles) {
         return Ok(());
     }
-    if !takes_input(facts, class, set) {
+    if !takes_input(facts, class, one.set) {
         return Ok(());
     }
     clause.push(Lit {
-        var: first + cycle as u32 + 1,
+        var: one.first + cycle as u32 + 1,
         positive: false,
     })?;
     Ok(())

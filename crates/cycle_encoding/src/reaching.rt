@@ -2,12 +2,10 @@
 ghost use Rattle.std.specs.Prelude.{◌≡◌, ◌+◌, ◌≤◌, ◌++◌, ◌*◌, ◌&&◌, false, length, map, IfOk, OnOk};
 ghost use Rattle.std.specs.Option.{option_map_or};
 ghost use Rattle.graph_meaning.specs.Graphs.{is_input_register};
-ghost use Rattle.std.specs.List.{count_by, filter, sum_by};
+ghost use Rattle.std.specs.List.{sum_by};
 ghost use Rattle.schedule_meaning.specs.Launches as launches;
-ghost use Rattle.schedule_meaning.specs.declared.schedules.To.TheVariants.{Set as SetTo};
 ghost use Rattle.cycle_encoding.specs.Counts.{one_if, row_is};
 ghost use Rattle.cycle_encoding.specs.Counts.{row_destinations};
-ghost use Rattle.cycle_encoding.specs.Facts as specs;
 ghost use Rattle.cycle_encoding.specs.Variables as variables;
 
 use crate::Facts;
@@ -128,9 +126,8 @@ pub fn takes_register(facts: &Facts, _allocation: Allocation, row: u32) -> u64
 
 /// How many destinations of a row overwrite an input's register.
 pub fn late(facts: &Facts, allocation: Allocation, row: u32) -> u64
-    ensures value { result
-        ≡ sum_by (λ to. one_if (option_map_or (is_input_register facts.now) (launches.pin_of facts.now to) false))
-        (row_destinations facts.now allocation row) }
+    ensures value { result ≡ sum_by (λ to. one_if (option_map_or (is_input_register facts.now)
+        (launches.pin_of facts.now to) false)) (row_destinations facts.now allocation row) }
     ensures few { result ≤ 31 }
 {
     let Some(instr) = facts.instr_at(row) else {

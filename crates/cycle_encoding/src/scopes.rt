@@ -9,7 +9,7 @@ ghost use Rattle.cycle_encoding.specs.Variables.{row_numbers};
 ghost use Rattle.cycle_encoding.specs.Scoped as scoped;
 ghost use Rattle.cycle_encoding.specs.CycleFormula.{allocation_in, first_cycle_in, wants_in, wide_scope};
 
-use crate::coming::earliest_cycles;
+use crate::coming::{Rows, earliest_cycles};
 use crate::operands::{There, awaited, needs};
 use crate::wanting::wanted;
 use crate::{Encoding, Facts};
@@ -67,8 +67,13 @@ impl Scope {
         let lasting = needs(alloc, facts, There::Always)?;
         let wants = wanted(alloc, facts, &lasting)?;
         let awaited = awaited(alloc, facts, allocation)?;
-        let come = earliest_cycles(alloc, facts, table, allocation, &awaited)?;
-        let firsts = first_cycles(alloc, facts, allocation, &awaited, &come, &wants)?;
+        let rows = Rows {
+            facts,
+            table,
+            allocation,
+        };
+        let come = earliest_cycles(alloc, &rows, &awaited)?;
+        let firsts = first_cycles(alloc, &rows, &awaited, &come, &wants)?;
         Ok(Scope {
             encoding,
             firsts,
@@ -127,38 +132,37 @@ impl Scope {
 #[tactic(auto, using(crate::proofs::Tables::table_more))]
 fn first_cycles(
     alloc: Global,
-    facts: &Facts,
-    allocation: Allocation,
+    rows: &Rows,
     needs: &[Items<u32>],
     come: &[Option<u32>],
     marks: &[bool],
 ) -> Result<Vec<Option<u32>>, NoMemory>
-    requires rows { length facts.now.rows < 2 ^ 30 }
-    requires needs { needs.now ≡ map (start_needs facts.now allocation) (row_numbers facts.now) }
-    ensures { IfOk result (λ firsts. firsts.items
-        ≡ map (scoped.first_cycle facts.now allocation come.now marks.now) (row_numbers facts.now)) }
+    requires rows { length rows.now.facts.now.rows < 2 ^ 30 }
+    requires needs { needs.now ≡ map (start_needs rows.now.facts.now rows.now.allocation)
+        (row_numbers rows.now.facts.now) }
+    ensures { IfOk result (λ firsts. firsts.items ≡ map (scoped.first_cycle rows.now.facts.now rows.now.allocation
+        come.now marks.now) (row_numbers rows.now.facts.now)) }
 {
     let mut firsts = Vec::new(alloc);
-    for row in 0..facts.row_numbers() {
+    for row in 0..rows.facts.row_numbers() {
         let awaited = needs[row as usize].as_slice();
-        let first = first_cycle(facts, allocation, awaited, come, marks, row);
+        let first = first_cycle(rows, awaited, come, marks, row);
         firsts.push(first)?;
     }
     Ok(firsts)
 }
 
 fn first_cycle(
-    facts: &Facts,
-    _allocation: Allocation,
+    rows: &Rows,
     needs: &[u32],
     come: &[Option<u32>],
     marks: &[bool],
     row: u32,
 ) -> Option<u32>
-    requires needs { needs.now ≡ start_needs facts.now _allocation row }
-    ensures { result ≡ scoped.first_cycle facts.now _allocation come.now marks.now row }
+    requires needs { needs.now ≡ start_needs rows.now.facts.now rows.now.allocation row }
+    ensures { result ≡ scoped.first_cycle rows.now.facts.now rows.now.allocation come.now marks.now row }
 {
-    if is_spoken_of(facts, marks, row) {
+    if is_spoken_of(rows.facts, marks, row) {
         latest(come, needs)
     } else {
         None

@@ -1,7 +1,7 @@
 // What is seen: in which cluster and cycle a class is readable.
 ghost use Rattle.std.specs.Prelude.{◌≡◌, ◌+◌, ◌<◌, ◌≤◌, ◌^◌, [], ◌++◌, if◌then◌else◌, length, IfOk, OnOk};
 ghost use Rattle.std.specs.Prelude.{option_to_list};
-ghost use Rattle.graph_meaning.specs.WellFormed.{IsLaunchGraph};
+ghost use Rattle.cycle_encoding.specs.Framed.{IsFrame};
 ghost use Rattle.cycle_encoding.specs.CycleFormula.{wants_in};
 ghost use Rattle.cycle_encoding.specs.Steps as steps;
 ghost use Rattle.cycle_encoding.specs.Facts.{is_unsafe_shown};
@@ -10,7 +10,7 @@ ghost use Rattle.cycle_encoding.specs.Shapes.{numbered, vars_of};
 ghost use Rattle.cycle_encoding.specs.Steps.{AreSeenVars, cluster_seen, clusters_before, clusters_seen};
 
 use crate::facts::next_class;
-use crate::{Facts, Scope};
+use crate::{Facts, Frame, Scope};
 use cnf_core::Lit;
 use items::NoMemory;
 use machine_table::Table;
@@ -35,6 +35,13 @@ pub fn has_cluster(table: &Table, cluster: u8) -> bool
         .any(|slot| slot.cluster == cluster)
 }
 
+/// What is seen, with its variable.
+#[derive(Clone, Copy)]
+pub struct Sight {
+    pub var: u32,
+    pub thing: Seen,
+}
+
 /// What is seen, with its variables: that of the thing at a place is `first` + 1 and the place.
 #[derive(Drop)]
 pub struct SeenVars {
@@ -45,29 +52,22 @@ pub struct SeenVars {
 }
 
 /// All that may be seen in k cycles of the classes that the scope wants: by class, then by cluster, then by cycle.
-pub fn seen_vars(
-    alloc: Global,
-    facts: &Facts,
-    table: &Table,
-    scope: &Scope,
-    k: u32,
-    first: u32,
-) -> Result<SeenVars, NoMemory>
-    requires graph { IsLaunchGraph facts.now }
+pub fn seen_vars(alloc: Global, frame: &Frame, first: u32) -> Result<SeenVars, NoMemory>
+    requires frame { IsFrame frame.now }
     ensures first { IfOk result (λ vars. vars.first ≡ first) }
-    ensures cycles { IfOk result (λ vars. vars.cycles ≡ k) }
-    ensures seen { IfOk result (λ vars. AreSeenVars facts.now (wants_in scope.now) table.now k first
-        vars.seen.items vars.starts.items) }
+    ensures cycles { IfOk result (λ vars. vars.cycles ≡ frame.now.k) }
+    ensures seen { IfOk result (λ vars. AreSeenVars frame.now.facts.now (wants_in frame.now.scope.now)
+        frame.now.table.now frame.now.k first vars.seen.items vars.starts.items) }
 {
     let mut seen = Vec::new(alloc);
     let mut starts = Vec::new(alloc);
-    for class in 0..next_class(facts.graph()) {
+    for class in 0..next_class(frame.facts.graph()) {
         starts.push(seen.as_slice().len())?;
-        push_class(&mut seen, facts, table, scope, k, class)?;
+        push_class(&mut seen, frame, class)?;
     }
     Ok(SeenVars {
         first,
-        cycles: k,
+        cycles: frame.k,
         seen,
         starts,
     })
@@ -84,23 +84,16 @@ pub fn is_shown(facts: &Facts, scope: &Scope, class: u32) -> bool
 }
 
 /// What is seen of a class, if it is shown.
-fn push_class(
-    seen: &mut Vec<Seen>,
-    facts: &Facts,
-    table: &Table,
-    scope: &Scope,
-    k: u32,
-    class: u32,
-) -> Result<(), NoMemory>
-    ensures { OnOk result (seen.new.items ≡ seen.old.items
-        ++ (if is_unsafe_shown facts.now (wants_in scope.now) class then clusters_seen table.now k 4 class else [])) }
+fn push_class(seen: &mut Vec<Seen>, frame: &Frame, class: u32) -> Result<(), NoMemory>
+    ensures { OnOk result (seen.new.items ≡ seen.old.items ++ (if is_unsafe_shown frame.now.facts.now
+        (wants_in frame.now.scope.now) class then clusters_seen frame.now.table.now frame.now.k 4 class else [])) }
 {
-    if !is_shown(facts, scope, class) {
+    if !is_shown(frame.facts, frame.scope, class) {
         return Ok(());
     }
     for cluster in 0..4u8 {
-        if has_cluster(table, cluster) {
-            push_cluster(seen, k, class, cluster)?;
+        if has_cluster(frame.table, cluster) {
+            push_cluster(seen, frame.k, class, cluster)?;
         }
     }
     Ok(())
@@ -122,22 +115,14 @@ fn seen_in_clusters(table: &Table, k: u32, _class: u32, cluster: u8) -> usize
 }
 
 /// The variable of a class that is seen in a cluster and cycle, if it has one.
-pub fn seen_var(
-    vars: &SeenVars,
-    facts: &Facts,
-    table: &Table,
-    scope: &Scope,
-    class: u32,
-    cluster: u8,
-    cycle: u32,
-) -> Option<Lit>
+pub fn seen_var(vars: &SeenVars, frame: &Frame, class: u32, cluster: u8, cycle: u32) -> Option<Lit>
     requires few { vars.now.first + length vars.now.seen.items < 2 ^ 29 }
-    requires vars { AreSeenVars facts.now (wants_in scope.now) table.now vars.now.cycles vars.now.first
-        vars.now.seen.items vars.now.starts.items }
+    requires vars { AreSeenVars frame.now.facts.now (wants_in frame.now.scope.now) frame.now.table.now vars.now.cycles
+        vars.now.first vars.now.seen.items vars.now.starts.items }
     ensures { option_to_list result
         ≡ vars_of (is_seen class cluster cycle) (numbered vars.now.first vars.now.seen.items) }
 {
-    if !is_shown(facts, scope, class) {
+    if !is_shown(frame.facts, frame.scope, class) {
         return None;
     }
     let starts = vars.starts.as_slice();
@@ -147,14 +132,14 @@ pub fn seen_var(
     if cluster >= 4 {
         return None;
     }
-    if !has_cluster(table, cluster) {
+    if !has_cluster(frame.table, cluster) {
         return None;
     }
     if cycle >= vars.cycles {
         return None;
     }
     let place = starts[class as usize]
-        + seen_in_clusters(table, vars.cycles, class, cluster)
+        + seen_in_clusters(frame.table, vars.cycles, class, cluster)
         + cycle as usize;
     Some(Lit {
         var: vars.first + place as u32 + 1,

@@ -1,10 +1,9 @@
 // The counts of the formula of cycles, slots and values where sets may have pins.
 ghost use Rattle.std.specs.Prelude.{◌≡◌, ◌<◌, ◌≤◌, ◌^◌};
 ghost use Rattle.std.specs.List.{count_by, range_with_len};
-ghost use Rattle.schedule_meaning.specs.Limits.{most_cycles};
 ghost use Rattle.graph_meaning.specs.WellFormed as wellformed;
 ghost use Rattle.graph_meaning.specs.WellFormed.{IsLaunchGraph};
-ghost use Rattle.machine_table.specs.Tables.{IsTable};
+ghost use Rattle.cycle_encoding.specs.Framed.{IsFrame, over};
 ghost use Rattle.cycle_encoding.specs.CycleFormula.{wants_in};
 ghost use Rattle.cycle_encoding.specs.Counts as counts;
 ghost use Rattle.cycle_encoding.specs.Facts.{is_unsafe_shown};
@@ -16,8 +15,7 @@ use crate::destined_counts::{launch_count, place_sizes};
 use crate::facts::next_class;
 use crate::needs_counts::needs_count;
 use crate::seen::is_shown;
-use crate::{Facts, Scope};
-use machine_table::Table;
+use crate::{Facts, Frame, Scope};
 use schedule_meaning::{To, pin_of};
 
 /// How many classes are shown.
@@ -70,21 +68,20 @@ pub fn overwriting_count(facts: &Facts) -> u64
 }
 
 /// The counts of the formula of cycles, slots and values.
-pub fn cycle_sizes(facts: &Facts, table: &Table, scope: &Scope, k: u32) -> Sizes
-    requires graph { IsLaunchGraph facts.now }
-    requires table { IsTable table.now }
-    requires cycles { k ≤ most_cycles }
-    ensures vars { result.vars ≡ counts.cycle_vars facts.now table.now k scope.now }
-    ensures clauses { result.clauses ≡ counts.cycle_size facts.now table.now k scope.now }
+pub fn cycle_sizes(frame: &Frame) -> Sizes
+    requires frame { IsFrame frame.now }
+    ensures vars { result.vars ≡ over frame.now counts.cycle_vars }
+    ensures clauses { result.clauses ≡ over frame.now counts.cycle_size }
     ensures few_vars { result.vars < 2 ^ 50 }
     ensures few_clauses { result.clauses < 2 ^ 63 }
 {
-    let seen = shown_count(facts, scope) * (cluster_count(table) * u64::from(k));
-    let overwritten = overwriting_count(facts) * (u64::from(k) + 1);
-    let places = place_sizes(facts, table, scope, k);
-    let needs = needs_count(facts, table, scope, k);
+    let seen = shown_count(frame.facts, frame.scope)
+        * (cluster_count(frame.table) * u64::from(frame.k));
+    let overwritten = overwriting_count(frame.facts) * (u64::from(frame.k) + 1);
+    let places = place_sizes(frame);
+    let needs = needs_count(frame);
     Sizes {
-        vars: launch_count(facts, table, scope, k) + seen + overwritten + places.vars,
-        clauses: target_count(facts) + needs + seen + places.clauses,
+        vars: launch_count(frame) + seen + overwritten + places.vars,
+        clauses: target_count(frame.facts) + needs + seen + places.clauses,
     }
 }

@@ -45,3 +45,4 @@ pub mod HoldPlaces
 pub mod HoldSteps
 pub mod CountersUpTo
 pub mod LiveExtended
+mod PartLoop

@@ -8,3 +8,8 @@ pub mod OrderCounts
 pub mod Worked
 pub mod PinnedWorked
 pub mod PinFamilies
+pub mod LiveOver
+pub mod MemoryOver
+pub mod PlanOver
+pub mod PooledMarks
+pub mod PartOver

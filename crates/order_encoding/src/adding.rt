@@ -1,5 +1,6 @@
 // The parts of the whole formula behind that of cycles, slots and values, one after another.
 ghost use Rattle.std.specs.Prelude.{◌≡◌, ◌<◌, ◌≤◌, ◌^◌, IfOk, IfErr, OnOk};
+ghost use Rattle.cycle_encoding.specs.Framed.{IsFrame, over};
 ghost use Rattle.cycle_encoding.specs.Limits.{most_vars};
 ghost use Rattle.schedule_meaning.specs.Limits.{most_cycles};
 ghost use Rattle.graph_meaning.specs.WellFormed.{IsLaunchGraph};
@@ -8,6 +9,8 @@ ghost use Rattle.cycle_encoding.specs.CycleFormula.{before_overwritten, cycle_fo
 ghost use Rattle.cycle_encoding.specs.Encodings.{OnLists};
 ghost use Rattle.cycle_encoding.specs.Faults.{EncodeFaultIs};
 ghost use Rattle.cycle_encoding.specs.Plans.{IsTooLarge};
+ghost use Rattle.order_encoding.specs.PartOver.{HasLaunches, HasOverwritten, IsBuilt, IsBuiltFault, IsInLimits};
+ghost use Rattle.order_encoding.specs.PlanOver.{IsCapacityOf, by_list, listed_by};
 ghost use Rattle.order_encoding.specs.OrderCounts.{part_size, part_vars};
 ghost use Rattle.order_encoding.specs.WholeFormula.{KnowsOverwritten, before_part, with_part};
 ghost use Rattle.order_encoding.specs.WholeFormula.{before_new_stores, guard_formula, memory_formula, pool_formula};
@@ -20,17 +23,18 @@ use crate::live_ranges::extend_by_live_ranges;
 use crate::memory::extend_by_memory;
 use crate::pin_counts::pins_sizes;
 use crate::pins::extend_by_pins;
+use crate::plans::Plan;
 use crate::pool::extend_by_registers;
 use crate::sizes::{guard_sizes, memory_sizes, pool_sizes};
 use cnf_core::Cnf;
 use cycle_encoding::{
-    EncodeFault, Encoded, Facts, Scope, Sizes, cycle_counts_are_found, cycle_sizes,
+    EncodeFault, Encoded, Facts, Frame, Scope, Sizes, cycle_counts_are_found, cycle_sizes,
     each_encoding_has_one_list,
 };
 use graph_meaning::LaunchGraph;
 use items::NoMemory;
 use machine_table::Table;
-use schedule_meaning::{Allocation, Launch};
+use schedule_meaning::Allocation;
 use slot_capacity::{Capacity, capacity_sizes, extend_by_capacity};
 use std::alloc::Global;
 
@@ -44,139 +48,100 @@ pub enum Part {
     Capacity,
 }
 
+/// All parts, in their order.
+pub const PARTS: [Part; 5] = [
+    Part::Memory,
+    Part::Guard,
+    Part::Pool,
+    Part::Pins,
+    Part::Capacity,
+];
+
 /// How many variables and clauses a part has, over what a scope gives variables.
 fn part_sizes(
     alloc: Global,
     part: Part,
-    facts: &Facts,
-    table: &Table,
-    scope: &Scope,
-    k: u32,
+    frame: &Frame,
+    capacity: &Capacity,
 ) -> Result<Sizes, NoMemory>
-    requires cycles { k ≤ most_cycles }
-    requires table { IsTable table.now }
-    requires graph { IsLaunchGraph facts.now }
-    ensures vars { IfOk result (λ sizes. sizes.vars ≡ part_vars part facts.now table.now k scope.now) }
-    ensures clauses { IfOk result (λ sizes. sizes.clauses ≡ part_size part facts.now table.now k scope.now) }
+    requires frame { IsFrame frame.now }
+    requires capacity { IsCapacityOf frame.now capacity.now }
+    ensures vars { IfOk result (λ sizes. sizes.vars ≡ over frame.now (part_vars part)) }
+    ensures clauses { IfOk result (λ sizes. sizes.clauses ≡ over frame.now (part_size part)) }
     ensures few_vars { IfOk result (λ sizes. sizes.vars < 2 ^ 62) }
     ensures few_clauses { IfOk result (λ sizes. sizes.clauses < 2 ^ 62) }
 {
     match part {
-        Part::Memory => Ok(memory_sizes(facts, table, scope, k)),
-        Part::Guard => Ok(guard_sizes(facts, table, scope, k)),
-        Part::Pool => pool_sizes(alloc, facts, table, scope, k),
-        Part::Pins => Ok(pins_sizes(facts, table, scope, k)),
-        Part::Capacity => {
-            let capacity = Capacity::of(alloc, facts, table, scope, k)?;
-            Ok(capacity_sizes(facts, table, scope, k, &capacity))
-        }
+        Part::Memory => Ok(memory_sizes(frame)),
+        Part::Guard => Ok(guard_sizes(frame)),
+        Part::Pool => pool_sizes(alloc, frame),
+        Part::Pins => Ok(pins_sizes(frame)),
+        Part::Capacity => Ok(capacity_sizes(frame, capacity)),
     }
 }
 
 /// How many variables come before those of cycles with a store; no clause is built.
-fn before_stores(facts: &Facts, table: &Table, scope: &Scope, k: u32) -> u32
-    requires cycles { k ≤ most_cycles }
-    requires table { IsTable table.now }
-    requires graph { IsLaunchGraph facts.now }
-    requires few { before_new_stores facts.now k (launch_vars (listed_in facts.now table.now k scope.now))
-        (cycle_formula facts.now table.now k (listed_in facts.now table.now k scope.now)) ≤ most_vars }
-    ensures { result ≡ before_new_stores facts.now k (launch_vars (listed_in facts.now table.now k scope.now))
-        (cycle_formula facts.now table.now k (listed_in facts.now table.now k scope.now)) }
+fn before_stores(frame: &Frame) -> u32
+    requires frame { IsFrame frame.now }
+    requires few { before_new_stores frame.now.facts.now frame.now.k (launch_vars (over frame.now listed_in))
+        (by_list frame.now cycle_formula) ≤ most_vars }
+    ensures { result ≡ before_new_stores frame.now.facts.now frame.now.k (launch_vars (over frame.now listed_in))
+        (by_list frame.now cycle_formula) }
 {
     cycle_counts_are_found();
-    let cycle = cycle_sizes(facts, table, scope, k);
-    (cycle.vars + times(k + 1, memory_count(facts))) as u32
+    let cycle = cycle_sizes(frame);
+    (cycle.vars + times(frame.k + 1, memory_count(frame.facts))) as u32
 }
 
 /// How many variables come before those of the cycles by which the branch has come; no clause is built.
-fn before_branch(facts: &Facts, table: &Table, scope: &Scope, k: u32) -> u32
-    requires cycles { k ≤ most_cycles }
-    requires table { IsTable table.now }
-    requires graph { IsLaunchGraph facts.now }
-    requires few { (memory_formula facts.now table.now k (listed_in facts.now table.now k scope.now)).vars
-        ≤ most_vars }
-    ensures { result
-        ≡ (memory_formula facts.now table.now k (listed_in facts.now table.now k scope.now)).vars }
+fn before_branch(frame: &Frame) -> u32
+    requires frame { IsFrame frame.now }
+    requires few { (by_list frame.now memory_formula).vars ≤ most_vars }
+    ensures { result ≡ (by_list frame.now memory_formula).vars }
 {
     parts_are_counted();
-    let cycle = cycle_sizes(facts, table, scope, k);
-    let memory = memory_sizes(facts, table, scope, k);
+    let cycle = cycle_sizes(frame);
+    let memory = memory_sizes(frame);
     (cycle.vars + memory.vars) as u32
 }
 
 /// Adds the variables and clauses of registers, as long as launches keep them.
-fn extend_by_pool(
-    alloc: Global,
-    cnf: &mut Cnf,
-    facts: &Facts,
-    table: &Table,
-    scope: &Scope,
-    k: u32,
-    launches: &[Launch],
-    overwritten: u32,
-) -> Result<(), NoMemory>
-    requires cycles { k ≤ most_cycles }
-    requires table { IsTable table.now }
-    requires graph { IsLaunchGraph facts.now }
-    requires formula { cnf.old ≡ guard_formula facts.now table.now k (listed_in facts.now table.now k scope.now) }
-    requires launches { launches.now ≡ (listed_in facts.now table.now k scope.now).launches }
-    requires overwritten { overwritten ≡ before_overwritten (listed_in facts.now table.now k scope.now) }
-    requires within { ¬ IsTooLarge (pool_formula facts.now table.now k (listed_in facts.now table.now k scope.now)) }
-    ensures { OnOk result
-        (cnf.new ≡ pool_formula facts.now table.now k (listed_in facts.now table.now k scope.now)) }
+fn extend_by_pool(alloc: Global, cnf: &mut Cnf, plan: &Plan) -> Result<(), NoMemory>
+    requires frame { IsFrame plan.now.frame }
+    requires formula { cnf.old ≡ by_list plan.now.frame guard_formula }
+    requires launches { plan.now.launches.now ≡ (listed_by plan.now).launches }
+    requires overwritten { plan.now.overwritten ≡ before_overwritten (listed_by plan.now) }
+    requires within { ¬ IsTooLarge (by_list plan.now.frame pool_formula) }
+    ensures { OnOk result (cnf.new ≡ by_list plan.now.frame pool_formula) }
 {
-    match scope.allocation() {
-        Allocation::Block => extend_by_registers(alloc, cnf, facts, table, launches, k),
-        Allocation::Live => {
-            extend_by_live_ranges(alloc, cnf, facts, table, launches, k, overwritten)
-        }
+    match plan.frame.scope.allocation() {
+        Allocation::Block => extend_by_registers(alloc, cnf, plan),
+        Allocation::Live => extend_by_live_ranges(alloc, cnf, plan),
     }
 }
 
 /// Adds a part's variables and clauses. The launches have the first variables; `overwritten` is the variable before
 /// those of what is overwritten.
-pub fn extend(
-    alloc: Global,
-    part: Part,
-    cnf: &mut Cnf,
-    facts: &Facts,
-    table: &Table,
-    scope: &Scope,
-    k: u32,
-    launches: &[Launch],
-    overwritten: u32,
-) -> Result<(), NoMemory>
-    requires cycles { k ≤ most_cycles }
-    requires table { IsTable table.now }
-    requires graph { IsLaunchGraph facts.now }
-    requires formula { cnf.old ≡ before_part part facts.now table.now k (listed_in facts.now table.now k scope.now) }
-    requires launches { launches.now ≡ (listed_in facts.now table.now k scope.now).launches }
-    requires overwritten { KnowsOverwritten part overwritten (listed_in facts.now table.now k scope.now) }
-    requires within { ¬ IsTooLarge (with_part part facts.now table.now k (listed_in facts.now table.now k scope.now)) }
-    ensures { OnOk result
-        (cnf.new ≡ with_part part facts.now table.now k (listed_in facts.now table.now k scope.now)) }
+pub fn extend(alloc: Global, part: Part, cnf: &mut Cnf, plan: &Plan) -> Result<(), NoMemory>
+    requires frame { IsFrame plan.now.frame }
+    requires capacity { IsCapacityOf plan.now.frame plan.now.capacity.now }
+    requires formula { cnf.old ≡ by_list plan.now.frame (before_part part) }
+    requires launches { plan.now.launches.now ≡ (listed_by plan.now).launches }
+    requires overwritten { KnowsOverwritten part plan.now.overwritten (listed_by plan.now) }
+    requires within { ¬ IsTooLarge (by_list plan.now.frame (with_part part)) }
+    ensures { OnOk result (cnf.new ≡ by_list plan.now.frame (with_part part)) }
 {
     match part {
-        Part::Memory => extend_by_memory(alloc, cnf, facts, launches, k),
-        Part::Guard => extend_by_guard(alloc, cnf, facts, launches, k),
-        Part::Pool => extend_by_pool(alloc, cnf, facts, table, scope, k, launches, overwritten),
+        Part::Memory => extend_by_memory(alloc, cnf, plan),
+        Part::Guard => extend_by_guard(alloc, cnf, plan),
+        Part::Pool => extend_by_pool(alloc, cnf, plan),
         Part::Pins => {
-            let branches = before_branch(facts, table, scope, k);
-            let stores = before_stores(facts, table, scope, k);
-            extend_by_pins(
-                alloc,
-                cnf,
-                facts,
-                launches,
-                k,
-                overwritten,
-                branches,
-                stores,
-            )
+            let branches = before_branch(&plan.frame);
+            let stores = before_stores(&plan.frame);
+            extend_by_pins(alloc, cnf, plan, branches, stores)
         }
         Part::Capacity => {
-            let capacity = Capacity::of(alloc, facts, table, scope, k)?;
-            extend_by_capacity(alloc, cnf, facts, &capacity, launches)
+            extend_by_capacity(alloc, cnf, plan.frame.facts, plan.capacity, plan.launches)
         }
     }
 }
@@ -191,17 +156,12 @@ pub fn add_memory(
     requires cycles { encoded.plan.cycles ≤ most_cycles }
     requires table { IsTable table.now }
     requires graph { IsLaunchGraph graph.now }
-    requires formula { OnLists encoded.plan.encoding graph.now table.now encoded.plan.cycles
-        (λ l. encoded.cnf ≡ cycle_formula graph.now table.now encoded.plan.cycles l) }
-    requires plan { OnLists encoded.plan.encoding graph.now table.now encoded.plan.cycles
-        (λ l. encoded.plan.launches ≡ l.launches) }
-    ensures formula { IfOk result (λ e. OnLists encoded.plan.encoding graph.now table.now encoded.plan.cycles
-        (λ l. e.cnf ≡ memory_formula graph.now table.now encoded.plan.cycles l)) }
+    requires formula { IsBuilt encoded.plan graph.now table.now cycle_formula encoded.cnf }
+    requires plan { HasLaunches encoded.plan graph.now table.now }
+    ensures formula { IfOk result (λ e. IsBuilt encoded.plan graph.now table.now memory_formula e.cnf) }
     ensures plan { IfOk result (λ e. e.plan ≡ encoded.plan) }
-    ensures size { IfErr result (λ fault. OnLists encoded.plan.encoding graph.now table.now encoded.plan.cycles
-        (λ l. EncodeFaultIs (memory_formula graph.now table.now encoded.plan.cycles l) fault)) }
-    ensures within { OnOk result (OnLists encoded.plan.encoding graph.now table.now encoded.plan.cycles
-        (λ l. ¬ IsTooLarge (memory_formula graph.now table.now encoded.plan.cycles l))) }
+    ensures size { IfErr result (IsBuiltFault encoded.plan graph.now table.now memory_formula) }
+    ensures within { OnOk result (IsInLimits encoded.plan graph.now table.now memory_formula) }
 {
     add_part(alloc, Part::Memory, encoded, graph, table)
 }
@@ -216,17 +176,12 @@ pub fn add_guard(
     requires cycles { encoded.plan.cycles ≤ most_cycles }
     requires table { IsTable table.now }
     requires graph { IsLaunchGraph graph.now }
-    requires formula { OnLists encoded.plan.encoding graph.now table.now encoded.plan.cycles
-        (λ l. encoded.cnf ≡ memory_formula graph.now table.now encoded.plan.cycles l) }
-    requires plan { OnLists encoded.plan.encoding graph.now table.now encoded.plan.cycles
-        (λ l. encoded.plan.launches ≡ l.launches) }
-    ensures formula { IfOk result (λ e. OnLists encoded.plan.encoding graph.now table.now encoded.plan.cycles
-        (λ l. e.cnf ≡ guard_formula graph.now table.now encoded.plan.cycles l)) }
+    requires formula { IsBuilt encoded.plan graph.now table.now memory_formula encoded.cnf }
+    requires plan { HasLaunches encoded.plan graph.now table.now }
+    ensures formula { IfOk result (λ e. IsBuilt encoded.plan graph.now table.now guard_formula e.cnf) }
     ensures plan { IfOk result (λ e. e.plan ≡ encoded.plan) }
-    ensures size { IfErr result (λ fault. OnLists encoded.plan.encoding graph.now table.now encoded.plan.cycles
-        (λ l. EncodeFaultIs (guard_formula graph.now table.now encoded.plan.cycles l) fault)) }
-    ensures within { OnOk result (OnLists encoded.plan.encoding graph.now table.now encoded.plan.cycles
-        (λ l. ¬ IsTooLarge (guard_formula graph.now table.now encoded.plan.cycles l))) }
+    ensures size { IfErr result (IsBuiltFault encoded.plan graph.now table.now guard_formula) }
+    ensures within { OnOk result (IsInLimits encoded.plan graph.now table.now guard_formula) }
 {
     add_part(alloc, Part::Guard, encoded, graph, table)
 }
@@ -241,19 +196,13 @@ pub fn add_pool(
     requires cycles { encoded.plan.cycles ≤ most_cycles }
     requires table { IsTable table.now }
     requires graph { IsLaunchGraph graph.now }
-    requires formula { OnLists encoded.plan.encoding graph.now table.now encoded.plan.cycles
-        (λ l. encoded.cnf ≡ guard_formula graph.now table.now encoded.plan.cycles l) }
-    requires plan { OnLists encoded.plan.encoding graph.now table.now encoded.plan.cycles
-        (λ l. encoded.plan.launches ≡ l.launches) }
-    requires overwritten { OnLists encoded.plan.encoding graph.now table.now encoded.plan.cycles
-        (λ l. encoded.plan.overwritten ≡ before_overwritten l) }
-    ensures formula { IfOk result (λ e. OnLists encoded.plan.encoding graph.now table.now encoded.plan.cycles
-        (λ l. e.cnf ≡ pool_formula graph.now table.now encoded.plan.cycles l)) }
+    requires formula { IsBuilt encoded.plan graph.now table.now guard_formula encoded.cnf }
+    requires plan { HasLaunches encoded.plan graph.now table.now }
+    requires overwritten { HasOverwritten encoded.plan graph.now table.now }
+    ensures formula { IfOk result (λ e. IsBuilt encoded.plan graph.now table.now pool_formula e.cnf) }
     ensures plan { IfOk result (λ e. e.plan ≡ encoded.plan) }
-    ensures size { IfErr result (λ fault. OnLists encoded.plan.encoding graph.now table.now encoded.plan.cycles
-        (λ l. EncodeFaultIs (pool_formula graph.now table.now encoded.plan.cycles l) fault)) }
-    ensures within { OnOk result (OnLists encoded.plan.encoding graph.now table.now encoded.plan.cycles
-        (λ l. ¬ IsTooLarge (pool_formula graph.now table.now encoded.plan.cycles l))) }
+    ensures size { IfErr result (IsBuiltFault encoded.plan graph.now table.now pool_formula) }
+    ensures within { OnOk result (IsInLimits encoded.plan graph.now table.now pool_formula) }
 {
     add_part(alloc, Part::Pool, encoded, graph, table)
 }
@@ -268,19 +217,13 @@ pub fn add_pins(
     requires cycles { encoded.plan.cycles ≤ most_cycles }
     requires table { IsTable table.now }
     requires graph { IsLaunchGraph graph.now }
-    requires formula { OnLists encoded.plan.encoding graph.now table.now encoded.plan.cycles
-        (λ l. encoded.cnf ≡ pool_formula graph.now table.now encoded.plan.cycles l) }
-    requires plan { OnLists encoded.plan.encoding graph.now table.now encoded.plan.cycles
-        (λ l. encoded.plan.launches ≡ l.launches) }
-    requires overwritten { OnLists encoded.plan.encoding graph.now table.now encoded.plan.cycles
-        (λ l. encoded.plan.overwritten ≡ before_overwritten l) }
-    ensures formula { IfOk result (λ e. OnLists encoded.plan.encoding graph.now table.now encoded.plan.cycles
-        (λ l. e.cnf ≡ pins_formula graph.now table.now encoded.plan.cycles l)) }
+    requires formula { IsBuilt encoded.plan graph.now table.now pool_formula encoded.cnf }
+    requires plan { HasLaunches encoded.plan graph.now table.now }
+    requires overwritten { HasOverwritten encoded.plan graph.now table.now }
+    ensures formula { IfOk result (λ e. IsBuilt encoded.plan graph.now table.now pins_formula e.cnf) }
     ensures plan { IfOk result (λ e. e.plan ≡ encoded.plan) }
-    ensures size { IfErr result (λ fault. OnLists encoded.plan.encoding graph.now table.now encoded.plan.cycles
-        (λ l. EncodeFaultIs (pins_formula graph.now table.now encoded.plan.cycles l) fault)) }
-    ensures within { OnOk result (OnLists encoded.plan.encoding graph.now table.now encoded.plan.cycles
-        (λ l. ¬ IsTooLarge (pins_formula graph.now table.now encoded.plan.cycles l))) }
+    ensures size { IfErr result (IsBuiltFault encoded.plan graph.now table.now pins_formula) }
+    ensures within { OnOk result (IsInLimits encoded.plan graph.now table.now pins_formula) }
 {
     add_part(alloc, Part::Pins, encoded, graph, table)
 }
@@ -296,17 +239,12 @@ pub fn add_capacity(
     requires cycles { encoded.plan.cycles ≤ most_cycles }
     requires table { IsTable table.now }
     requires graph { IsLaunchGraph graph.now }
-    requires formula { OnLists encoded.plan.encoding graph.now table.now encoded.plan.cycles
-        (λ l. encoded.cnf ≡ pins_formula graph.now table.now encoded.plan.cycles l) }
-    requires plan { OnLists encoded.plan.encoding graph.now table.now encoded.plan.cycles
-        (λ l. encoded.plan.launches ≡ l.launches) }
-    ensures formula { IfOk result (λ e. OnLists encoded.plan.encoding graph.now table.now encoded.plan.cycles
-        (λ l. e.cnf ≡ whole_formula graph.now table.now encoded.plan.cycles l)) }
+    requires formula { IsBuilt encoded.plan graph.now table.now pins_formula encoded.cnf }
+    requires plan { HasLaunches encoded.plan graph.now table.now }
+    ensures formula { IfOk result (λ e. IsBuilt encoded.plan graph.now table.now whole_formula e.cnf) }
     ensures plan { IfOk result (λ e. e.plan ≡ encoded.plan) }
-    ensures size { IfErr result (λ fault. OnLists encoded.plan.encoding graph.now table.now encoded.plan.cycles
-        (λ l. EncodeFaultIs (whole_formula graph.now table.now encoded.plan.cycles l) fault)) }
-    ensures within { OnOk result (OnLists encoded.plan.encoding graph.now table.now encoded.plan.cycles
-        (λ l. ¬ IsTooLarge (whole_formula graph.now table.now encoded.plan.cycles l))) }
+    ensures size { IfErr result (IsBuiltFault encoded.plan graph.now table.now whole_formula) }
+    ensures within { OnOk result (IsInLimits encoded.plan graph.now table.now whole_formula) }
 {
     add_part(alloc, Part::Capacity, encoded, graph, table)
 }
@@ -322,24 +260,25 @@ fn add_part(
     requires cycles { encoded.plan.cycles ≤ most_cycles }
     requires table { IsTable table.now }
     requires graph { IsLaunchGraph graph.now }
-    requires formula { OnLists encoded.plan.encoding graph.now table.now encoded.plan.cycles
-        (λ l. encoded.cnf ≡ before_part part graph.now table.now encoded.plan.cycles l) }
-    requires plan { OnLists encoded.plan.encoding graph.now table.now encoded.plan.cycles
-        (λ l. encoded.plan.launches ≡ l.launches) }
+    requires formula { IsBuilt encoded.plan graph.now table.now (before_part part) encoded.cnf }
+    requires plan { HasLaunches encoded.plan graph.now table.now }
     requires overwritten { OnLists encoded.plan.encoding graph.now table.now encoded.plan.cycles
         (KnowsOverwritten part encoded.plan.overwritten) }
-    ensures formula { IfOk result (λ e. OnLists encoded.plan.encoding graph.now table.now encoded.plan.cycles
-        (λ l. e.cnf ≡ with_part part graph.now table.now encoded.plan.cycles l)) }
+    ensures formula { IfOk result (λ e. IsBuilt encoded.plan graph.now table.now (with_part part) e.cnf) }
     ensures plan { IfOk result (λ e. e.plan ≡ encoded.plan) }
-    ensures size { IfErr result (λ fault. OnLists encoded.plan.encoding graph.now table.now encoded.plan.cycles
-        (λ l. EncodeFaultIs (with_part part graph.now table.now encoded.plan.cycles l) fault)) }
-    ensures within { OnOk result (OnLists encoded.plan.encoding graph.now table.now encoded.plan.cycles
-        (λ l. ¬ IsTooLarge (with_part part graph.now table.now encoded.plan.cycles l))) }
+    ensures size { IfErr result (IsBuiltFault encoded.plan graph.now table.now (with_part part)) }
+    ensures within { OnOk result (IsInLimits encoded.plan graph.now table.now (with_part part)) }
 {
     each_encoding_has_one_list();
     let facts = Facts::new(alloc, graph)?;
     let scope = Scope::of(alloc, encoded.plan.encoding(), &facts, table)?;
-    add_part_in(alloc, part, encoded, &facts, table, &scope)
+    let frame = Frame {
+        facts: &facts,
+        table,
+        scope: &scope,
+        k: encoded.plan.cycles(),
+    };
+    add_part_in(alloc, part, encoded, &frame)
 }
 
 /// The same over what a scope gives variables.
@@ -347,43 +286,39 @@ fn add_part_in(
     alloc: Global,
     part: Part,
     encoded: Encoded,
-    facts: &Facts,
-    table: &Table,
-    scope: &Scope,
+    frame: &Frame,
 ) -> Result<Encoded, EncodeFault>
+    requires k { frame.now.k ≡ encoded.plan.cycles }
     requires cycles { encoded.plan.cycles ≤ most_cycles }
-    requires table { IsTable table.now }
-    requires graph { IsLaunchGraph facts.now }
-    requires formula { encoded.cnf ≡ before_part part facts.now table.now encoded.plan.cycles
-        (listed_in facts.now table.now encoded.plan.cycles scope.now) }
+    requires frame { IsFrame frame.now }
+    requires formula { encoded.cnf ≡ before_part part frame.now.facts.now frame.now.table.now encoded.plan.cycles
+        (listed_in frame.now.facts.now frame.now.table.now encoded.plan.cycles frame.now.scope.now) }
     requires launches { encoded.plan.launches
-        ≡ (listed_in facts.now table.now encoded.plan.cycles scope.now).launches }
+        ≡ (listed_in frame.now.facts.now frame.now.table.now encoded.plan.cycles frame.now.scope.now).launches }
     requires overwritten { KnowsOverwritten part encoded.plan.overwritten
-        (listed_in facts.now table.now encoded.plan.cycles scope.now) }
-    ensures formula { IfOk result (λ e. e.cnf ≡ with_part part facts.now table.now encoded.plan.cycles
-        (listed_in facts.now table.now encoded.plan.cycles scope.now)) }
+        (listed_in frame.now.facts.now frame.now.table.now encoded.plan.cycles frame.now.scope.now) }
+    ensures formula { IfOk result (λ e. e.cnf ≡ with_part part frame.now.facts.now frame.now.table.now
+        encoded.plan.cycles (listed_in frame.now.facts.now frame.now.table.now encoded.plan.cycles frame.now.scope.now)) }
     ensures plan { IfOk result (λ e. e.plan ≡ encoded.plan) }
-    ensures size { IfErr result (EncodeFaultIs (with_part part facts.now table.now encoded.plan.cycles
-        (listed_in facts.now table.now encoded.plan.cycles scope.now))) }
-    ensures within { OnOk result (¬ IsTooLarge (with_part part facts.now table.now encoded.plan.cycles
-        (listed_in facts.now table.now encoded.plan.cycles scope.now))) }
+    ensures size { IfErr result (EncodeFaultIs (with_part part frame.now.facts.now frame.now.table.now
+        encoded.plan.cycles (listed_in frame.now.facts.now frame.now.table.now encoded.plan.cycles
+        frame.now.scope.now))) }
+    ensures within { OnOk result (¬ IsTooLarge (with_part part frame.now.facts.now frame.now.table.now
+        encoded.plan.cycles (listed_in frame.now.facts.now frame.now.table.now encoded.plan.cycles
+        frame.now.scope.now))) }
 {
     parts_are_counted();
     let mut cnf = encoded.cnf;
     let plan = encoded.plan;
-    let k = plan.cycles();
-    let sizes = grown(&cnf, part_sizes(alloc, part, facts, table, scope, k)?);
+    let capacity = Capacity::of(alloc, frame)?;
+    let sizes = grown(&cnf, part_sizes(alloc, part, frame, &capacity)?);
     sizes.within_limits()?;
-    extend(
-        alloc,
-        part,
-        &mut cnf,
-        facts,
-        table,
-        scope,
-        k,
-        plan.launches(),
-        plan.overwritten(),
-    )?;
+    let layout = Plan {
+        frame: *frame,
+        launches: plan.launches(),
+        overwritten: plan.overwritten(),
+        capacity: &capacity,
+    };
+    extend(alloc, part, &mut cnf, &layout)?;
     Ok(Encoded { cnf, plan })
 }

@@ -1,22 +1,19 @@
 // Counts and their sums, and what a row adds to the counts of memory and of a guard's branch.
 ghost use Rattle.std.specs.Prelude.{◌≡◌, ◌+◌, ◌*◌, ◌<◌, ◌≤◌, ◌^◌, ◌==◌, not, ℕ, List, length};
 ghost use Rattle.std.specs.List.{count_by};
-ghost use Rattle.schedule_meaning.specs.Limits.{most_cycles};
 ghost use Rattle.cnf_core.specs.Counter as counter;
 ghost use Rattle.cnf_core.specs.declared.literal.Lit.{Lit as LitOf};
 ghost use Rattle.graph_meaning.specs.WellFormed.{IsLaunchGraph};
-ghost use Rattle.machine_table.specs.Tables.{IsTable};
+ghost use Rattle.cycle_encoding.specs.Framed.{IsFrame, over};
 ghost use Rattle.cycle_encoding.specs.Counts as cycle_counts;
-ghost use Rattle.cycle_encoding.specs.Counts.{one_if};
 ghost use Rattle.order_encoding.specs.OrderCounts as counts;
 ghost use Rattle.order_encoding.specs.OrderCounts.{row_uses};
 ghost use Rattle.order_encoding.specs.OrderVariables.{memory_classes};
 
 use crate::held::is_memory_class;
 use cnf_core::Cnf;
-use cycle_encoding::{Facts, Scope, Sizes, can_begin, next_class, row_count, slot_count};
+use cycle_encoding::{Facts, Frame, Sizes, can_begin, next_class, row_count, slot_count};
 use graph_meaning::LaunchGraph;
-use machine_table::Table;
 use schedule_meaning::{is_load, is_store};
 
 /// The counts of a formula to which a part is added.
@@ -59,26 +56,25 @@ pub fn times(factor: u32, count: u64) -> u64
 
 /// How many stores of a row may be launched in a cycle.
 #[tactic(auto, using(crate::proofs::CountSteps::no_store, crate::proofs::CountSteps::stores_without_instr, crate::proofs::CountSteps::stores_without_use, crate::proofs::CountSteps::stores_without_first, crate::proofs::CountSteps::stores_in_time, crate::proofs::CountSteps::stores_too_late))]
-pub fn row_stores(facts: &Facts, table: &Table, scope: &Scope, k: u32, cycle: u32, row: u32) -> u64
-    requires table { IsTable table.now }
-    requires cycles { k ≤ most_cycles }
-    ensures value { result ≡ counts.row_stores facts.now table.now k scope.now cycle row }
+pub fn row_stores(frame: &Frame, cycle: u32, row: u32) -> u64
+    requires frame { IsFrame frame.now }
+    ensures value { result ≡ over frame.now counts.row_stores cycle row }
     ensures few { result ≤ 8 }
 {
-    if !is_store(facts.instr_at(row)) {
+    if !is_store(frame.facts.instr_at(row)) {
         return 0;
     }
-    let Some(instr) = facts.instr_at(row) else {
+    let Some(instr) = frame.facts.instr_at(row) else {
         return 0;
     };
-    let Some(latency) = table.latency(instr) else {
+    let Some(latency) = frame.table.latency(instr) else {
         return 0;
     };
-    let Some(first) = scope.first(row) else {
+    let Some(first) = frame.scope.first(row) else {
         return 0;
     };
-    if can_begin(k, latency, first, cycle) {
-        slot_count(table, instr)
+    if can_begin(frame.k, latency, first, cycle) {
+        slot_count(frame.table, instr)
     } else {
         0
     }
@@ -115,16 +111,15 @@ pub fn other_count(facts: &Facts) -> u64
 
 /// How many clauses say which memory the launches of a row use.
 #[tactic(auto, using(crate::proofs::CountSteps::uses_of_store, crate::proofs::CountSteps::uses_of_load, crate::proofs::CountSteps::no_uses))]
-pub fn row_use_count(facts: &Facts, table: &Table, scope: &Scope, k: u32, row: u32) -> u64
-    requires table { IsTable table.now }
-    requires cycles { k ≤ most_cycles }
-    ensures value { result ≡ cycle_counts.row_count facts.now table.now k scope.now row * row_uses facts.now row }
+pub fn row_use_count(frame: &Frame, row: u32) -> u64
+    requires frame { IsFrame frame.now }
+    ensures value { result ≡ over frame.now cycle_counts.row_count row * row_uses frame.now.facts.now row }
     ensures few { result ≤ 600 }
 {
-    if is_store(facts.instr_at(row)) {
-        row_count(facts, table, scope, k, row) * 3
-    } else if is_load(facts.instr_at(row)) {
-        row_count(facts, table, scope, k, row)
+    if is_store(frame.facts.instr_at(row)) {
+        row_count(frame.facts, frame.table, frame.scope, frame.k, row) * 3
+    } else if is_load(frame.facts.instr_at(row)) {
+        row_count(frame.facts, frame.table, frame.scope, frame.k, row)
     } else {
         0
     }

@@ -10,7 +10,7 @@ ghost use Rattle.order_encoding.specs.OrderVariables as variables;
 ghost use Rattle.order_encoding.specs.OrderVariables.{all_held};
 ghost use Rattle.order_encoding.specs.OrderFamilies.{is_held_at, entry_clauses, held_groups, last_clauses};
 ghost use Rattle.order_encoding.specs.OrderFamilies.{not_at_entry};
-ghost use Rattle.order_encoding.specs.OrderSteps.{AreHeldVars, held_at, held_before};
+ghost use Rattle.order_encoding.specs.OrderSteps.{AreHeldVars, held_at};
 
 use cnf_core::{Cnf, Lit, at_most_one, counters_count};
 use cycle_encoding::{Facts, add_implied, next_class};
@@ -134,9 +134,8 @@ fn add_others(cnf: &mut Cnf, facts: &Facts, held: &HeldVars) -> Result<(), NoMem
     requires held { AreHeldVars facts.now held.now.cycles held.now.classes.items held.now.starts.items }
     requires exist { held.now.first + length (all_held facts.now held.now.cycles) ≤ cnf.old.vars }
     requires few { cnf.old.vars < 2 ^ 29 }
-    requires room { length cnf.old.clauses
-        + length (implied (numbered held.now.first (all_held facts.now held.now.cycles)) (not_at_entry facts.now))
-        < 2 ^ 30 }
+    requires room { length cnf.old.clauses + length
+        (implied (numbered held.now.first (all_held facts.now held.now.cycles)) (not_at_entry facts.now)) < 2 ^ 30 }
     ensures { OnOk result (cnf.new ≡ with_clauses cnf.old
         (implied (numbered held.now.first (all_held facts.now held.now.cycles)) (not_at_entry facts.now))) }
 {
@@ -185,9 +184,8 @@ pub fn add_held_counters(
     requires exist { held.now.first + length (all_held facts.now held.now.cycles) ≤ cnf.old.vars }
     requires vars { cnf.old.vars + counters_vars 1 (held_groups held.now.cycles
         (numbered held.now.first (all_held facts.now held.now.cycles))) < 2 ^ 29 }
-    requires room { length cnf.old.clauses
-        + counters_size 1 (held_groups held.now.cycles (numbered held.now.first (all_held facts.now held.now.cycles)))
-        < 2 ^ 30 }
+    requires room { length cnf.old.clauses + counters_size 1 (held_groups held.now.cycles
+        (numbered held.now.first (all_held facts.now held.now.cycles))) < 2 ^ 30 }
     ensures { OnOk result (cnf.new ≡ with_counters cnf.old
         (held_groups held.now.cycles (numbered held.now.first (all_held facts.now held.now.cycles)))) }
 {

@@ -58,16 +58,14 @@ pub fn clauses_say_fits()
         → IsTable table → IsLaunchGraph g → IsPinnedList g table a k e
         → Satisfies v (whole_formula g table k e).clauses → Fits g table a k (shown v (launch_vars e)) }
     ensures some { (g : Graph) (table : TableOf) (a : AllocationOf) (k : ℕ) (e : ListedOf) (ls : List LaunchOf)
-        → IsTable table → IsLaunchGraph g → IsPinnedList g table a k e → Fits g table a k ls
-        → (ms : List LaunchOf) × Fits g table a k ms × ((keep : LaunchOf → Bool) × (ms ≡ filter keep ls))
-        × ((v : ℕ → Bool) × Satisfies v (whole_formula g table k e).clauses
-        × ((l : LaunchOf) → Contains (shown v (launch_vars e)) l ↔ Contains ms l)) }
+        → IsTable table → IsLaunchGraph g → IsPinnedList g table a k e → Fits g table a k ls → (ms : List LaunchOf)
+        × Fits g table a k ms × ((keep : LaunchOf → Bool) × (ms ≡ filter keep ls)) × ((v : ℕ → Bool) × Satisfies v
+        (whole_formula g table k e).clauses × ((l : LaunchOf) → Contains (shown v (launch_vars e)) l ↔ Contains ms l)) }
     ensures all { (g : Graph) (table : TableOf) (k : ℕ) (v : ℕ → Bool) → IsTable table → IsLaunchGraph g
         → Satisfies v (whole_formula g table k (wide g table k)).clauses
         → Fits g table Block k (shown v (launch_vars (wide g table k))) }
     ensures each { (g : Graph) (table : TableOf) (k : ℕ) (ls : List LaunchOf) → IsTable table → IsLaunchGraph g
-        → Fits g table Block k ls
-        → (v : ℕ → Bool) × Satisfies v (whole_formula g table k (wide g table k)).clauses
+        → Fits g table Block k ls → (v : ℕ → Bool) × Satisfies v (whole_formula g table k (wide g table k)).clauses
         × ((l : LaunchOf) → Contains (shown v (launch_vars (wide g table k))) l ↔ Contains ls l) }
 {
     counters_count();
@@ -87,12 +85,11 @@ pub fn each_encoding_says_fits()
         → Fits g table (allocation_of e) k (shown v (launch_vars l)) }
     ensures some { (e : EncodingOf) (g : Graph) (table : TableOf) (k : ℕ) (l : ListedOf) (ls : List LaunchOf)
         → IsTable table → IsLaunchGraph g → AreListed e g table k l → Fits g table (allocation_of e) k ls
-        → (ms : List LaunchOf) × Fits g table (allocation_of e) k ms × ((keep : LaunchOf → Bool) × (ms ≡ filter keep ls))
-        × ((v : ℕ → Bool) × Satisfies v (whole_formula g table k l).clauses
+        → (ms : List LaunchOf) × Fits g table (allocation_of e) k ms × ((keep : LaunchOf → Bool)
+        × (ms ≡ filter keep ls)) × ((v : ℕ → Bool) × Satisfies v (whole_formula g table k l).clauses
         × ((x : LaunchOf) → Contains (shown v (launch_vars l)) x ↔ Contains ms x)) }
     ensures each { (g : Graph) (table : TableOf) (k : ℕ) (ls : List LaunchOf) → IsTable table → IsLaunchGraph g
-        → Fits g table Block k ls
-        → (v : ℕ → Bool) × Satisfies v (whole_formula g table k (wide g table k)).clauses
+        → Fits g table Block k ls → (v : ℕ → Bool) × Satisfies v (whole_formula g table k (wide g table k)).clauses
         × ((l : LaunchOf) → Contains (shown v (launch_vars (wide g table k))) l ↔ Contains ls l) }
 {
     clauses_say_fits();
@@ -100,15 +97,13 @@ pub fn each_encoding_says_fits()
 
 /// The two counts of the whole formula, as they are found row by row.
 pub fn counts_are_found()
-    ensures vars { (g : Graph) (table : TableOf) (k : ℕ) (s : ScopeOf)
-        → (whole_formula g table k (listed_in g table k s)).vars
-        ≡ cycle_vars g table k s + memory_vars g table k s + guard_vars g table k s
-        + pool_vars g table k s (allocation_in s) + pins_vars g table k s
-        + capacity_vars g table k s (capacity_in s g table k) }
-    ensures clauses { (g : Graph) (table : TableOf) (k : ℕ) (s : ScopeOf)
-        → length (whole_formula g table k (listed_in g table k s)).clauses
-        ≡ cycle_size g table k s + memory_size g table k s + guard_size g table k s
-        + pool_size g table k s (allocation_in s) + pins_size g table k s
+    ensures vars { (g : Graph) (table : TableOf) (k : ℕ) (s : ScopeOf) → (whole_formula g table k
+        (listed_in g table k s)).vars ≡ cycle_vars g table k s + memory_vars g table k s + guard_vars g table k s
+        + pool_vars g table k s (allocation_in s) + pins_vars g table k s + capacity_vars g table k s
+        (capacity_in s g table k) }
+    ensures clauses { (g : Graph) (table : TableOf) (k : ℕ) (s : ScopeOf) → length
+        (whole_formula g table k (listed_in g table k s)).clauses ≡ cycle_size g table k s + memory_size g table k s
+        + guard_size g table k s + pool_size g table k s (allocation_in s) + pins_size g table k s
         + capacity_size g table k s (capacity_in s g table k) }
 {
     counters_count();
@@ -119,9 +114,8 @@ pub fn counts_are_found()
 /// Each part adds its counts, as they are found row by row, to those of the formula of the parts before it. The first
 /// sum is said too, since the variables of the branch's cycles come behind those of memory.
 pub fn parts_are_counted()
-    ensures memory_vars { (g : Graph) (table : TableOf) (k : ℕ) (s : ScopeOf)
-        → (memory_formula g table k (listed_in g table k s)).vars
-        ≡ cycle_vars g table k s + memory_vars g table k s }
+    ensures memory_vars { (g : Graph) (table : TableOf) (k : ℕ) (s : ScopeOf) → (memory_formula g table k
+        (listed_in g table k s)).vars ≡ cycle_vars g table k s + memory_vars g table k s }
     ensures vars { (p : PartOf) (g : Graph) (table : TableOf) (k : ℕ) (s : ScopeOf)
         → (with_part p g table k (listed_in g table k s)).vars
         ≡ (before_part p g table k (listed_in g table k s)).vars + part_vars p g table k s }
@@ -156,14 +150,11 @@ pub fn worked_pinned_formulas()
     ensures step { whole_formula step_graph two_slots 1 (listed_in step_graph two_slots 1 step_scope)
         ≡ record { vars = 14; clauses = step_clauses } }
     ensures exchange { whole_formula exchange_graph two_copiers 1
-        (listed_in exchange_graph two_copiers 1 exchange_scope)
-        ≡ record { vars = 29; clauses = exchange_clauses } }
+        (listed_in exchange_graph two_copiers 1 exchange_scope) ≡ record { vars = 29; clauses = exchange_clauses } }
     ensures no_step_vars { (whole_formula step_graph ev6 0 (listed_in step_graph ev6 0 step_scope)).vars ≡ 2 }
-    ensures no_step_size { length
-        (whole_formula step_graph ev6 0 (listed_in step_graph ev6 0 step_scope)).clauses ≡ 3 }
+    ensures no_step_size { length (whole_formula step_graph ev6 0 (listed_in step_graph ev6 0 step_scope)).clauses ≡ 3 }
     ensures step_vars { (whole_formula step_graph ev6 1 (listed_in step_graph ev6 1 step_scope)).vars ≡ 28 }
-    ensures step_size { length
-        (whole_formula step_graph ev6 1 (listed_in step_graph ev6 1 step_scope)).clauses ≡ 38 }
+    ensures step_size { length (whole_formula step_graph ev6 1 (listed_in step_graph ev6 1 step_scope)).clauses ≡ 38 }
     ensures copy_vars { (whole_formula pinned_copy_graph ev6 2
         (listed_in pinned_copy_graph ev6 2 copy_scope)).vars ≡ 182 }
     ensures copy_clauses { length (whole_formula pinned_copy_graph ev6 2

@@ -37,6 +37,7 @@ mod memory;
 mod needs;
 mod pin_counts;
 mod pins;
+mod plans;
 mod pool;
 mod sizes;
 mod whole;

@@ -8,6 +8,7 @@ ghost use Rattle.machine_table.specs.Tables.{IsTable};
 ghost use Rattle.schedule_meaning.specs.Fits.{Fits};
 ghost use Rattle.schedule_meaning.specs.declared.schedules.Allocation.TheVariants.{Block};
 ghost use Rattle.schedule_meaning.specs.declared.schedules.Launch.{Launch as LaunchOf};
+ghost use Rattle.cycle_encoding.specs.Framed.{IsFrame, over};
 ghost use Rattle.cycle_encoding.specs.CycleFormula.{Listed as ListedOf};
 ghost use Rattle.cycle_encoding.specs.Encodings.{AreListed, allocation_of};
 ghost use Rattle.cycle_encoding.specs.Faults.{EncodeFaultIs};
@@ -15,15 +16,17 @@ ghost use Rattle.cycle_encoding.specs.CycleFormula.{listed_in};
 ghost use Rattle.cycle_encoding.specs.CycleFormula.{wide, before_overwritten};
 ghost use Rattle.cycle_encoding.specs.Plans.{IsTooLarge, plan_of};
 ghost use Rattle.cycle_encoding.specs.Shapes.{numbered, shown};
+ghost use Rattle.order_encoding.specs.PlanOver.{IsCapacityOf, by_list};
 ghost use Rattle.order_encoding.specs.WholeFormula.{IsFormulaOf, IsSizeFault, formula_in, whole_formula};
 
-use crate::adding::{Part, extend};
+use crate::adding::{PARTS, extend};
 use crate::counts::both;
 use crate::laws::{counts_are_found, each_encoding_says_fits};
 use crate::pin_counts::pins_sizes;
+use crate::plans::Plan;
 use crate::sizes::{guard_sizes, memory_sizes, pool_sizes};
 use cycle_encoding::{
-    EncodeFault, Encoded, Encoding, Facts, Scope, Sizes, build_cycles, cycle_sizes,
+    EncodeFault, Encoded, Encoding, Facts, Frame, Scope, Sizes, build_cycles, cycle_sizes,
     each_encoding_has_one_list,
 };
 use graph_meaning::LaunchGraph;
@@ -49,14 +52,31 @@ pub fn formula_size(
         ≡ length (formula_in scope.now facts.now table.now k).clauses) }
     ensures few { IfOk result (λ sizes. (sizes.vars < 2 ^ 62) × (sizes.clauses < 2 ^ 63 + 2 ^ 62 + 2 ^ 61)) }
 {
+    let frame = Frame {
+        facts,
+        table,
+        scope,
+        k,
+    };
+    let capacity = Capacity::of(alloc, &frame)?;
+    sizes_with(alloc, &frame, &capacity)
+}
+
+/// The same with what the formula says of due classes.
+fn sizes_with(alloc: Global, frame: &Frame, capacity: &Capacity) -> Result<Sizes, NoMemory>
+    requires frame { IsFrame frame.now }
+    requires capacity { IsCapacityOf frame.now capacity.now }
+    ensures vars { IfOk result (λ sizes. sizes.vars ≡ (by_list frame.now whole_formula).vars) }
+    ensures clauses { IfOk result (λ sizes. sizes.clauses ≡ length (by_list frame.now whole_formula).clauses) }
+    ensures few { IfOk result (λ sizes. (sizes.vars < 2 ^ 62) × (sizes.clauses < 2 ^ 63 + 2 ^ 62 + 2 ^ 61)) }
+{
     counts_are_found();
-    let cycle = cycle_sizes(facts, table, scope, k);
-    let with_memory = both(cycle, memory_sizes(facts, table, scope, k));
-    let with_guard = both(with_memory, guard_sizes(facts, table, scope, k));
-    let with_pool = both(with_guard, pool_sizes(alloc, facts, table, scope, k)?);
-    let with_pins = both(with_pool, pins_sizes(facts, table, scope, k));
-    let capacity = Capacity::of(alloc, facts, table, scope, k)?;
-    Ok(both(with_pins, capacity_sizes(facts, table, scope, k, &capacity)))
+    let cycle = cycle_sizes(frame);
+    let with_memory = both(cycle, memory_sizes(frame));
+    let with_guard = both(with_memory, guard_sizes(frame));
+    let with_pool = both(with_guard, pool_sizes(alloc, frame)?);
+    let with_pins = both(with_pool, pins_sizes(frame));
+    Ok(both(with_pins, capacity_sizes(frame, capacity)))
 }
 
 /// The whole formula over what a scope gives variables. Facts and scope are made once for a graph and a table, and
@@ -83,9 +103,16 @@ pub fn build_formula(
     ensures within { OnOk result (¬ IsTooLarge (formula_in scope.now facts.now table.now k)) }
     ensures vars { IfOk result (λ e. length e.plan.launches ≤ e.cnf.vars) }
 {
-    let sizes = formula_size(alloc, facts, table, scope, k)?;
+    let frame = Frame {
+        facts,
+        table,
+        scope,
+        k,
+    };
+    let capacity = Capacity::of(alloc, &frame)?;
+    let sizes = sizes_with(alloc, &frame, &capacity)?;
     sizes.within_limits()?;
-    Ok(build_whole(alloc, facts, table, scope, k)?)
+    Ok(build_whole(alloc, &frame, &capacity)?)
 }
 
 /// The whole formula of schedules in k cycles: cycles, slots and values, memory, the branch of a guard, registers, and
@@ -100,13 +127,10 @@ pub fn full(
     requires cycles { k ≤ most_cycles }
     requires table { IsTable table.now }
     requires graph { IsLaunchGraph graph.now }
-    ensures formula { IfOk result (λ e. e.cnf
-        ≡ whole_formula graph.now table.now k (wide graph.now table.now k)) }
+    ensures formula { IfOk result (λ e. e.cnf ≡ whole_formula graph.now table.now k (wide graph.now table.now k)) }
     ensures plan { IfOk result (λ e. e.plan ≡ plan_of graph.now table.now k) }
-    ensures size { IfErr result (EncodeFaultIs
-        (whole_formula graph.now table.now k (wide graph.now table.now k))) }
-    ensures within { OnOk result
-        (¬ IsTooLarge (whole_formula graph.now table.now k (wide graph.now table.now k))) }
+    ensures size { IfErr result (EncodeFaultIs (whole_formula graph.now table.now k (wide graph.now table.now k))) }
+    ensures within { OnOk result (¬ IsTooLarge (whole_formula graph.now table.now k (wide graph.now table.now k))) }
     ensures vars { IfOk result (λ e. length e.plan.launches ≤ e.cnf.vars) }
 
     // What the values of variables show fits where they satisfy the clauses, and each schedule that fits is shown.
@@ -153,9 +177,9 @@ pub fn full_as(
     ensures shown { IfOk result (λ e. (v : ℕ → Bool) → Satisfies v e.cnf.clauses
         → Fits graph.now table.now (allocation_of encoding) k (shown v (numbered 0 e.plan.launches))) }
     ensures some { IfOk result (λ e. (ls : List LaunchOf) → Fits graph.now table.now (allocation_of encoding) k ls
-        → (ms : List LaunchOf) × Fits graph.now table.now (allocation_of encoding) k ms × ((keep : LaunchOf → Bool) × (ms ≡ filter keep ls))
-        × ((v : ℕ → Bool) × Satisfies v e.cnf.clauses
-        × ((l : LaunchOf) → Contains (shown v (numbered 0 e.plan.launches)) l ↔ Contains ms l))) }
+        → (ms : List LaunchOf) × Fits graph.now table.now (allocation_of encoding) k ms × ((keep : LaunchOf → Bool)
+        × (ms ≡ filter keep ls)) × ((v : ℕ → Bool) × Satisfies v e.cnf.clauses × ((l : LaunchOf) → Contains
+        (shown v (numbered 0 e.plan.launches)) l ↔ Contains ms l))) }
 {
     each_encoding_has_one_list();
     each_encoding_says_fits();
@@ -165,84 +189,30 @@ pub fn full_as(
 }
 
 /// Builds the whole formula of a scope, whose counts are within the limits.
-fn build_whole(
-    alloc: Global,
-    facts: &Facts,
-    table: &Table,
-    scope: &Scope,
-    k: u32,
-) -> Result<Encoded, NoMemory>
-    requires cycles { k ≤ most_cycles }
-    requires table { IsTable table.now }
-    requires graph { IsLaunchGraph facts.now }
-    requires within { ¬ IsTooLarge (formula_in scope.now facts.now table.now k) }
-    ensures formula { IfOk result (λ e. e.cnf ≡ formula_in scope.now facts.now table.now k) }
+fn build_whole(alloc: Global, frame: &Frame, capacity: &Capacity) -> Result<Encoded, NoMemory>
+    requires frame { IsFrame frame.now }
+    requires capacity { IsCapacityOf frame.now capacity.now }
+    requires within { ¬ IsTooLarge (formula_in frame.now.scope.now frame.now.facts.now frame.now.table.now frame.now.k) }
+    ensures formula { IfOk result (λ e. e.cnf ≡ formula_in frame.now.scope.now frame.now.facts.now frame.now.table.now
+        frame.now.k) }
     ensures plan { IfOk result (λ e. e.plan ≡ record {
-      encoding = scope.now.encoding;
-      cycles = k;
-      launches = (listed_in facts.now table.now k scope.now).launches;
-      overwritten = before_overwritten (listed_in facts.now table.now k scope.now);
+      encoding = frame.now.scope.now.encoding;
+      cycles = frame.now.k;
+      launches = (over frame.now listed_in).launches;
+      overwritten = before_overwritten (over frame.now listed_in);
     }) }
 {
-    let encoded = build_cycles(alloc, facts, table, scope, k)?;
+    let encoded = build_cycles(alloc, frame)?;
     let mut cnf = encoded.cnf;
     let plan = encoded.plan;
-    let launches = plan.launches();
-    let over = plan.overwritten();
-    extend(
-        alloc,
-        Part::Memory,
-        &mut cnf,
-        facts,
-        table,
-        scope,
-        k,
-        launches,
-        over,
-    )?;
-    extend(
-        alloc,
-        Part::Guard,
-        &mut cnf,
-        facts,
-        table,
-        scope,
-        k,
-        launches,
-        over,
-    )?;
-    extend(
-        alloc,
-        Part::Pool,
-        &mut cnf,
-        facts,
-        table,
-        scope,
-        k,
-        launches,
-        over,
-    )?;
-    extend(
-        alloc,
-        Part::Pins,
-        &mut cnf,
-        facts,
-        table,
-        scope,
-        k,
-        launches,
-        over,
-    )?;
-    extend(
-        alloc,
-        Part::Capacity,
-        &mut cnf,
-        facts,
-        table,
-        scope,
-        k,
-        launches,
-        over,
-    )?;
+    let layout = Plan {
+        frame: *frame,
+        launches: plan.launches(),
+        overwritten: plan.overwritten(),
+        capacity,
+    };
+    for part in &PARTS {
+        extend(alloc, *part, &mut cnf, &layout)?;
+    }
     Ok(Encoded { cnf, plan })
 }

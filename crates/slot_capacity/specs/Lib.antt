@@ -9,3 +9,4 @@ pub mod LimitsSteps
 pub mod CapacityClauses
 pub mod CapacitySteps
 pub mod CapacityCounts
+pub mod MakersOf

@@ -2,14 +2,13 @@
 ghost use Rattle.std.specs.Prelude.{◌≡◌, ◌==◌, ◌&&◌, ◌||◌, ◌+◌, ◌-◌, ◌<◌, ◌≤◌, ◌^◌, ◌∷◌, [], ◌++◌, All, length, min, nat_le, not, false, option_to_list, slice_get};
 ghost use Rattle.std.specs.Prelude.{IfOk, OnOk, map};
 ghost use Rattle.std.specs.Option.{option_map_or};
-ghost use Rattle.std.specs.List.{list_any, range_with_len};
-ghost use Rattle.cnf_core.specs.Formula.{IsLitOf};
+ghost use Rattle.std.specs.List.{range_with_len};
 ghost use Rattle.schedule_meaning.specs.Launches as launches;
 ghost use Rattle.cycle_encoding.specs.Counts.{row_is};
 ghost use Rattle.cycle_encoding.specs.Families as families;
 ghost use Rattle.cycle_encoding.specs.Narrow as narrow;
 ghost use Rattle.cycle_encoding.specs.Limits.{most_clauses, most_vars};
-ghost use Rattle.cycle_encoding.specs.Shapes.{implied, negative, numbered, vars_of};
+ghost use Rattle.cycle_encoding.specs.Shapes.{numbered, vars_of};
 ghost use Rattle.cycle_encoding.specs.Steps.{of_thing, with_clauses};
 ghost use Rattle.slot_capacity.specs.CapacityClauses as specs;
 ghost use Rattle.slot_capacity.specs.CapacityClauses.{all_launched, is_launched_at, with_capacity};
@@ -21,7 +20,7 @@ use crate::deadlines::Deadline;
 use crate::limits::{Capacity, Limit};
 use crate::makers::accesses;
 use cnf_core::{Cnf, Lit, at_most, counters_count};
-use cycle_encoding::{Facts, add_implied, add_vars};
+use cycle_encoding::{Facts, Made, add_implied, add_vars};
 use items::NoMemory;
 use machine_table::InstrKind;
 use schedule_meaning::{Launch, class_at, memory_class_at, operand_at, operand_count};
@@ -93,8 +92,7 @@ fn is_of(one: Deadline, class: u32) -> bool
 fn launched_var(counted: &[Deadline], first: u32, class: u32, cycle: u32) -> Option<Lit>
     requires apart { steps.AreApart counted.now }
     requires few { first + length (all_launched counted.now) < 2 ^ 29 }
-    ensures { option_to_list result
-        ≡ vars_of (is_launched_at class cycle) (numbered first (all_launched counted.now)) }
+    ensures { option_to_list result ≡ vars_of (is_launched_at class cycle) (numbered first (all_launched counted.now)) }
 {
     let mut before = first;
     for one in counted {
@@ -157,7 +155,11 @@ fn add_made(
         (numbered 0 launches.now) (numbered first (all_launched counted.now)))) }
 {
     for (index, launch) in launches.iter().enumerate() {
-        add_make(cnf, facts, counted, first, index as u32 + 1, *launch)?;
+        let made = Made {
+            var: index as u32 + 1,
+            launch: *launch,
+        };
+        add_make(cnf, facts, counted, first, made)?;
     }
     Ok(())
 }
@@ -178,24 +180,27 @@ fn add_make(
     facts: &Facts,
     counted: &[Deadline],
     first: u32,
-    var: u32,
-    launch: Launch,
+    made: Made,
 ) -> Result<(), NoMemory>
     requires apart { steps.AreApart counted.now }
-    requires var { 1 ≤ var }
-    requires launches { var ≤ first }
+    requires var { 1 ≤ made.var }
+    requires launches { made.var ≤ first }
     requires exist { first + length (all_launched counted.now) ≤ cnf.old.vars }
     requires few { cnf.old.vars < 2 ^ 29 }
     requires room { length cnf.old.clauses + length (specs.makes_counted facts.now counted.now
-        (numbered first (all_launched counted.now)) launch) < 2 ^ 30 }
-    ensures { OnOk result (cnf.new ≡ with_clauses cnf.old (of_thing var (specs.makes_counted facts.now counted.now
-        (numbered first (all_launched counted.now)) launch))) }
+        (numbered first (all_launched counted.now)) made.launch) < 2 ^ 30 }
+    ensures { OnOk result (cnf.new ≡ with_clauses cnf.old (of_thing made.var (specs.makes_counted facts.now counted.now
+        (numbered first (all_launched counted.now)) made.launch))) }
 {
-    if !makes_by(facts, counted, launch.row, launch.cycle) {
+    if !makes_by(facts, counted, made.launch.row, made.launch.cycle) {
         return Ok(());
     }
-    let class = class_at(facts.graph(), launch.row);
-    add_implied(cnf, var, launched_var(counted, first, class, launch.cycle))
+    let class = class_at(facts.graph(), made.launch.row);
+    add_implied(
+        cnf,
+        made.var,
+        launched_var(counted, first, class, made.launch.cycle),
+    )
 }
 
 /// Adds for each counted class and each of its cycles but the first the clause that what is launched up to the cycle
@@ -298,11 +303,9 @@ fn add_limits(
     requires apart { steps.AreApart counted.now }
     requires due { All (λ m. length m.due ≤ length counted.now) limits.now }
     requires exist { first + length (all_launched counted.now) ≤ cnf.old.vars }
-    requires vars { cnf.old.vars
-        + specs.limit_vars (numbered first (all_launched counted.now)) limits.now < 2 ^ 29 }
-    requires room { length cnf.old.clauses
-        + length (specs.limit_counters cnf.old.vars (numbered first (all_launched counted.now)) limits.now)
-        < 2 ^ 30 }
+    requires vars { cnf.old.vars + specs.limit_vars (numbered first (all_launched counted.now)) limits.now < 2 ^ 29 }
+    requires room { length cnf.old.clauses + length (specs.limit_counters cnf.old.vars
+        (numbered first (all_launched counted.now)) limits.now) < 2 ^ 30 }
     ensures { OnOk result (cnf.new ≡ record {
       vars = cnf.old.vars + specs.limit_vars (numbered first (all_launched counted.now)) limits.now;
       clauses = cnf.old.clauses

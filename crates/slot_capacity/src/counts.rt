@@ -3,76 +3,64 @@ ghost use Rattle.std.specs.Prelude.{◌≡◌, ◌-◌, ◌+◌, ◌*◌, ◌<�
 ghost use Rattle.std.specs.List.{sum_by};
 ghost use Rattle.schedule_meaning.specs.Limits.{most_cycles};
 ghost use Rattle.cnf_core.specs.Counter as counter;
-ghost use Rattle.machine_table.specs.Tables.{IsTable};
+ghost use Rattle.cycle_encoding.specs.Framed.{IsFrame, over};
 ghost use Rattle.slot_capacity.specs.CapacityCounts as counts;
 ghost use Rattle.slot_capacity.specs.CapacityCounts.{IsSmall};
 
 use crate::clauses::{last_counted, makes_own};
 use crate::deadlines::Deadline;
 use crate::limits::{Capacity, Limit};
-use cycle_encoding::{Facts, Scope, Sizes, destination_count, slot_count};
-use machine_table::Table;
+use cycle_encoding::{Frame, Sizes, destination_count, slot_count};
 use schedule_meaning::class_at;
 
 /// How many launches of a row's number, to one destination, there are up to a cycle.
 #[tactic(auto, using(crate::proofs::RowCounts::counted_to, crate::proofs::RowCounts::none_counted_first, crate::proofs::RowCounts::none_counted_use, crate::proofs::RowCounts::none_counted_instr))]
-fn row_count_up_to(facts: &Facts, table: &Table, scope: &Scope, k: u32, last: u32, row: u32) -> u64
-    requires table { IsTable table.now }
-    requires cycles { k ≤ most_cycles }
-    ensures value { result ≡ counts.row_count_up_to facts.now table.now k scope.now last row }
+fn row_count_up_to(frame: &Frame, last: u32, row: u32) -> u64
+    requires frame { IsFrame frame.now }
+    ensures value { result ≡ over frame.now counts.row_count_up_to last row }
     ensures few { result ≤ 200 }
 {
-    let Some(instr) = facts.instr_at(row) else {
+    let Some(instr) = frame.facts.instr_at(row) else {
         return 0;
     };
-    let Some(latency) = table.latency(instr) else {
+    let Some(latency) = frame.table.latency(instr) else {
         return 0;
     };
-    let Some(first) = scope.first(row) else {
+    let Some(first) = frame.scope.first(row) else {
         return 0;
     };
-    let ends = u64::from((k + 1).saturating_sub(latency));
+    let ends = u64::from((frame.k + 1).saturating_sub(latency));
     let cycles = ends
         .min(u64::from(last) + 1)
         .saturating_sub(u64::from(first));
-    slot_count(table, instr) * cycles
+    slot_count(frame.table, instr) * cycles
 }
 
 /// How many of them make a counted class by its last cycle.
-fn row_made(
-    facts: &Facts,
-    table: &Table,
-    scope: &Scope,
-    k: u32,
-    counted: &[Deadline],
-    row: u32,
-) -> u64
-    requires table { IsTable table.now }
-    requires cycles { k ≤ most_cycles }
-    ensures value { result ≡ counts.row_made facts.now table.now k scope.now counted.now row }
+fn row_made(frame: &Frame, counted: &[Deadline], row: u32) -> u64
+    requires frame { IsFrame frame.now }
+    ensures value { result ≡ over frame.now counts.row_made counted.now row }
     ensures few { result ≤ 200 }
 {
-    if !makes_own(facts, row) {
+    if !makes_own(frame.facts, row) {
         return 0;
     }
-    match last_counted(counted, class_at(facts.graph(), row)) {
-        Some(last) => row_count_up_to(facts, table, scope, k, last, row),
+    match last_counted(counted, class_at(frame.facts.graph(), row)) {
+        Some(last) => row_count_up_to(frame, last, row),
         None => 0,
     }
 }
 
 /// How many launches do.
-fn made_count(facts: &Facts, table: &Table, scope: &Scope, k: u32, counted: &[Deadline]) -> u64
-    requires table { IsTable table.now }
-    requires cycles { k ≤ most_cycles }
-    requires rows { length facts.now.rows < 2 ^ 30 }
-    ensures value { result ≡ counts.made_count facts.now table.now k scope.now counted.now }
+fn made_count(frame: &Frame, counted: &[Deadline]) -> u64
+    requires frame { IsFrame frame.now }
+    ensures value { result ≡ over frame.now counts.made_count counted.now }
     ensures few { result < 2 ^ 45 }
 {
     let mut count = 0;
-    for row in 0..facts.row_numbers() {
-        count += row_made(facts, table, scope, k, counted, row)
-            * destination_count(facts, scope.allocation(), row);
+    for row in 0..frame.facts.row_numbers() {
+        count += row_made(frame, counted, row)
+            * destination_count(frame.facts, frame.scope.allocation(), row);
     }
     count
 }
@@ -192,19 +180,11 @@ fn limits_sizes(limits: &[Limit]) -> Sizes
 }
 
 /// The counts of capacity.
-pub fn capacity_sizes(
-    facts: &Facts,
-    table: &Table,
-    scope: &Scope,
-    k: u32,
-    capacity: &Capacity,
-) -> Sizes
-    requires table { IsTable table.now }
-    requires cycles { k ≤ most_cycles }
-    requires rows { length facts.now.rows < 2 ^ 30 }
+pub fn capacity_sizes(frame: &Frame, capacity: &Capacity) -> Sizes
+    requires frame { IsFrame frame.now }
     requires small { IsSmall capacity.now }
-    ensures vars { result.vars ≡ counts.capacity_vars facts.now table.now k scope.now capacity.now }
-    ensures clauses { result.clauses ≡ counts.capacity_size facts.now table.now k scope.now capacity.now }
+    ensures vars { result.vars ≡ over frame.now counts.capacity_vars capacity.now }
+    ensures clauses { result.clauses ≡ over frame.now counts.capacity_size capacity.now }
     ensures few_vars { result.vars < 2 ^ 60 }
     ensures few_clauses { result.clauses < 2 ^ 60 }
 {
@@ -212,7 +192,7 @@ pub fn capacity_sizes(
     let limits = limits_sizes(capacity.limits.as_slice());
     Sizes {
         vars: launched_count(counted) + limits.vars,
-        clauses: made_count(facts, table, scope, k, counted)
+        clauses: made_count(frame, counted)
             + stay_count(counted)
             + counted.len() as u64
             + limits.clauses,

@@ -1,7 +1,7 @@
 // From which cycle a due class can be launched, and by which it has to be.
 ghost use Rattle.std.specs.Prelude.{◌≡◌, ◌<◌, ◌++◌, ◌∷◌, [], if◌then◌else◌, min, map, fold, All, Some, slice_index_or, IfOk, OnOk};
 ghost use Rattle.std.specs.Option.{option_map_or};
-ghost use Rattle.slot_capacity.specs.MakersSteps.{AreMakers};
+ghost use Rattle.slot_capacity.specs.MakersOf.{AreMakersOf, by_makers};
 ghost use Rattle.graph_meaning.specs.WellFormed as classes;
 ghost use Rattle.cycle_encoding.specs.Variables.{classes_of};
 ghost use Rattle.slot_capacity.specs.Deadlines as specs;
@@ -88,80 +88,63 @@ fn last_made(spans: &[Option<Span>], rows: &[u32]) -> u32
 }
 
 /// By which cycle the class has to be launched, but for its readers: the guard's so that the branch can end by k.
-fn own_last(
-    facts: &Facts,
-    table: &Table,
-    makers: &Makers,
-    k: u32,
-    class: u32,
-    first: u32,
-    last: u32,
-) -> u32
-    requires makers { AreMakers facts.now makers.now.spans.items makers.now.rows.items makers.now.always.items }
-    requires first { first ≡ specs.first_made facts.now table.now k makers.now.spans.items class }
-    requires last { last ≡ specs.last_made facts.now table.now k makers.now.spans.items class }
-    ensures { result ≡ specs.own_last facts.now table.now k makers.now.spans.items class }
+fn own_last(makers: &Makers, class: u32, first: u32, last: u32) -> u32
+    requires makers { AreMakersOf makers.now }
+    requires first { first ≡ by_makers makers.now specs.first_made class }
+    requires last { last ≡ by_makers makers.now specs.last_made class }
+    ensures { result ≡ by_makers makers.now specs.own_last class }
 {
-    if !is_guard(facts, class) {
+    if !is_guard(makers.frame.facts, class) {
         return last;
     }
-    let branch = table.latency(InstrKind::Beq).unwrap_or(0);
-    let delay = least_delay(facts, table, rows_of(facts, makers, class));
-    let before = k.saturating_sub(branch).saturating_sub(delay);
+    let branch = makers.frame.table.latency(InstrKind::Beq).unwrap_or(0);
+    let delay = least_delay(
+        makers.frame.facts,
+        makers.frame.table,
+        rows_of(makers, class),
+    );
+    let before = makers.frame.k.saturating_sub(branch).saturating_sub(delay);
     first.max(last.min(before))
 }
 
 /// The deadline of a class, but for its readers.
-fn own_deadline(facts: &Facts, table: &Table, makers: &Makers, k: u32, class: u32) -> Deadline
-    requires { AreMakers facts.now makers.now.spans.items makers.now.rows.items makers.now.always.items }
-    ensures { result ≡ specs.own_deadline facts.now table.now k makers.now.spans.items class }
+fn own_deadline(makers: &Makers, class: u32) -> Deadline
+    requires { AreMakersOf makers.now }
+    ensures { result ≡ by_makers makers.now specs.own_deadline class }
 {
-    let rows = rows_of(facts, makers, class);
+    let rows = rows_of(makers, class);
     let first = first_made(makers.spans.as_slice(), rows);
     let last = last_made(makers.spans.as_slice(), rows);
     Deadline {
         class,
         first,
-        last: own_last(facts, table, makers, k, class, first, last),
+        last: own_last(makers, class, first, last),
     }
 }
 
 /// Adds the deadline of a class, but for its readers, if some row makes the class.
-fn push_own(
-    deadlines: &mut Vec<Deadline>,
-    facts: &Facts,
-    table: &Table,
-    makers: &Makers,
-    k: u32,
-    class: u32,
-) -> Result<(), NoMemory>
-    requires { AreMakers facts.now makers.now.spans.items makers.now.rows.items makers.now.always.items }
+fn push_own(deadlines: &mut Vec<Deadline>, makers: &Makers, class: u32) -> Result<(), NoMemory>
+    requires { AreMakersOf makers.now }
     ensures { OnOk result (deadlines.new.items ≡ deadlines.old.items
-        ++ (if is_made facts.now makers.now.spans.items class
-        then specs.own_deadline facts.now table.now k makers.now.spans.items class ∷ [] else [])) }
+        ++ (if is_made makers.now.frame.facts.now makers.now.spans.items class
+        then by_makers makers.now specs.own_deadline class ∷ [] else [])) }
 {
-    if rows_of(facts, makers, class).is_empty() {
+    if rows_of(makers, class).is_empty() {
         return Ok(());
     }
-    deadlines.push(own_deadline(facts, table, makers, k, class))?;
+    deadlines.push(own_deadline(makers, class))?;
     Ok(())
 }
 
 /// The deadlines of the due classes that some row makes, but for their readers.
-fn own_deadlines(
-    alloc: Global,
-    facts: &Facts,
-    table: &Table,
-    makers: &Makers,
-    k: u32,
-) -> Result<Vec<Deadline>, NoMemory>
-    requires { AreMakers facts.now makers.now.spans.items makers.now.rows.items makers.now.always.items }
-    ensures { IfOk result (λ xs. xs.items ≡ specs.deadlines_within facts.now table.now k makers.now.spans.items 0) }
+fn own_deadlines(alloc: Global, makers: &Makers) -> Result<Vec<Deadline>, NoMemory>
+    requires { AreMakersOf makers.now }
+    ensures { IfOk result (λ xs. xs.items ≡ by_makers makers.now specs.deadlines_within 0) }
 {
-    let due = due_classes(alloc, facts, makers)?;
+    let due = due_classes(alloc, makers)?;
     let mut deadlines = Vec::new(alloc);
     for class in due.as_slice() {
-        push_own(&mut deadlines, facts, table, makers, k, *class)?;
+        push_own(&mut deadlines, makers, *class)?;
     }
     Ok(deadlines)
 }
@@ -174,18 +157,15 @@ fn before_reader(own: Deadline, delay: u32, last: u32, reader: u32) -> u32
 }
 
 /// The deadline of a class, made sooner by those of its readers.
-fn lowered(
-    facts: &Facts,
-    table: &Table,
-    makers: &Makers,
-    _k: u32,
-    readers: &[u32],
-    own: Deadline,
-) -> Deadline
-    requires { AreMakers facts.now makers.now.spans.items makers.now.rows.items makers.now.always.items }
-    ensures { result ≡ steps.lowered_by facts.now table.now _k makers.now.spans.items readers.now own }
+fn lowered(makers: &Makers, readers: &[u32], own: Deadline) -> Deadline
+    requires { AreMakersOf makers.now }
+    ensures { result ≡ by_makers makers.now steps.lowered_by readers.now own }
 {
-    let delay = least_delay(facts, table, rows_of(facts, makers, own.class));
+    let delay = least_delay(
+        makers.frame.facts,
+        makers.frame.table,
+        rows_of(makers, own.class),
+    );
     let mut last = own.last;
     for reader in readers {
         last = before_reader(own, delay, last, *reader);
@@ -210,21 +190,16 @@ fn put_last(lists: &mut Vec<Items<u32>>, classes: &[u32], last: u32) -> Result<(
 /// For each class the deadlines of those that always read it, in their order.
 fn reader_lasts(
     alloc: Global,
-    facts: &Facts,
     makers: &Makers,
     deadlines: &[Deadline],
 ) -> Result<Vec<Items<u32>>, NoMemory>
-    requires { AreMakers facts.now makers.now.spans.items makers.now.rows.items makers.now.always.items }
-    ensures { IfOk result (λ lists. lists.items
-        ≡ map (steps.lasts_for facts.now makers.now.spans.items deadlines.now) (classes_of facts.now)) }
+    requires { AreMakersOf makers.now }
+    ensures { IfOk result (λ lists. lists.items ≡ map (steps.lasts_for makers.now.frame.facts.now makers.now.spans.items
+        deadlines.now) (classes_of makers.now.frame.facts.now)) }
 {
-    let mut lists = empty_lists(alloc, next_class(facts.graph()))?;
+    let mut lists = empty_lists(alloc, next_class(makers.frame.facts.graph()))?;
     for reader in deadlines {
-        put_last(
-            &mut lists,
-            always_at(facts, makers, reader.class),
-            reader.last,
-        )?;
+        put_last(&mut lists, always_at(makers, reader.class), reader.last)?;
     }
     Ok(lists)
 }
@@ -242,39 +217,29 @@ fn list_at<'a>(lists: &'a [Items<u32>], class: u32) -> &'a [u32]
 /// All deadlines as they make each other. It goes over them and what they read once.
 fn all_lowered(
     alloc: Global,
-    facts: &Facts,
-    table: &Table,
     makers: &Makers,
-    k: u32,
     deadlines: &[Deadline],
 ) -> Result<Vec<Deadline>, NoMemory>
-    requires makers { AreMakers facts.now makers.now.spans.items makers.now.rows.items makers.now.always.items }
-    requires low { All (λ x. x.class < classes.next_class facts.now.rows) deadlines.now }
-    ensures { IfOk result (λ xs. xs.items
-        ≡ specs.all_lowered facts.now table.now k makers.now.spans.items deadlines.now) }
+    requires makers { AreMakersOf makers.now }
+    requires low { All (λ x. x.class < classes.next_class makers.now.frame.facts.now.rows) deadlines.now }
+    ensures { IfOk result (λ xs. xs.items ≡ by_makers makers.now specs.all_lowered deadlines.now) }
 {
-    let lists = reader_lasts(alloc, facts, makers, deadlines)?;
+    let lists = reader_lasts(alloc, makers, deadlines)?;
     let mut lower = Vec::new(alloc);
     for own in deadlines {
-        lower.push(lowered(facts, table, makers, k, list_at(&lists, own.class), *own))?;
+        lower.push(lowered(makers, list_at(&lists, own.class), *own))?;
     }
     Ok(lower)
 }
 
 /// The deadlines of the due classes that some row makes, rising by class. It goes on until a step makes none sooner.
-pub fn deadlines(
-    alloc: Global,
-    facts: &Facts,
-    table: &Table,
-    makers: &Makers,
-    k: u32,
-) -> Result<Vec<Deadline>, NoMemory>
-    requires { AreMakers facts.now makers.now.spans.items makers.now.rows.items makers.now.always.items }
-    ensures { IfOk result (λ xs. xs.items ≡ specs.deadlines facts.now table.now k makers.now.spans.items) }
+pub fn deadlines(alloc: Global, makers: &Makers) -> Result<Vec<Deadline>, NoMemory>
+    requires { AreMakersOf makers.now }
+    ensures { IfOk result (λ xs. xs.items ≡ by_makers makers.now specs.deadlines) }
 {
-    let mut deadlines = own_deadlines(alloc, facts, table, makers, k)?;
-    for _step in 0..k {
-        let lower = all_lowered(alloc, facts, table, makers, k, &deadlines)?;
+    let mut deadlines = own_deadlines(alloc, makers)?;
+    for _step in 0..makers.frame.k {
+        let lower = all_lowered(alloc, makers, &deadlines)?;
         if lower.as_slice() == deadlines.as_slice() {
             return Ok(deadlines);
         }

@@ -6,7 +6,7 @@ ghost use Rattle.graph_meaning.specs.Graphs.{is_memory_name};
 ghost use Rattle.graph_meaning.specs.WellFormed.{IsLaunchGraph};
 ghost use Rattle.slot_capacity.specs.Due as specs;
 ghost use Rattle.slot_capacity.specs.MakersSteps as steps;
-ghost use Rattle.slot_capacity.specs.MakersSteps.{AreMakers};
+ghost use Rattle.slot_capacity.specs.MakersOf.{AreMakersOf};
 
 use crate::makers::{Makers, always_at};
 use crate::sets::{is_marked, marked};
@@ -75,18 +75,14 @@ fn first_due(alloc: Global, facts: &Facts) -> Result<Vec<u32>, NoMemory>
 }
 
 /// What is always read for one of these classes, in their order.
-fn read_for(
-    alloc: Global,
-    facts: &Facts,
-    makers: &Makers,
-    due: &[u32],
-) -> Result<Vec<u32>, NoMemory>
-    requires { AreMakers facts.now makers.now.spans.items makers.now.rows.items makers.now.always.items }
-    ensures { IfOk result (λ read. read.items ≡ flat_map (steps.always_of facts.now makers.now.spans.items) due.now) }
+fn read_for(alloc: Global, makers: &Makers, due: &[u32]) -> Result<Vec<u32>, NoMemory>
+    requires { AreMakersOf makers.now }
+    ensures { IfOk result (λ read. read.items ≡ flat_map
+        (steps.always_of makers.now.frame.facts.now makers.now.spans.items) due.now) }
 {
     let mut read = Vec::new(alloc);
     for class in due {
-        read.extend_from_slice(always_at(facts, makers, *class))?;
+        read.extend_from_slice(always_at(makers, *class))?;
     }
     Ok(read)
 }
@@ -100,21 +96,17 @@ fn is_more_due(facts: &Facts, due_marks: &[bool], read_marks: &[bool], class: u3
 }
 
 /// The due classes with what is always read for one of them. It goes over them and what they read once.
-fn more_due(
-    alloc: Global,
-    facts: &Facts,
-    makers: &Makers,
-    due: &[u32],
-) -> Result<Vec<u32>, NoMemory>
-    requires { AreMakers facts.now makers.now.spans.items makers.now.rows.items makers.now.always.items }
-    ensures { IfOk result (λ more. more.items ≡ specs.more_due facts.now makers.now.spans.items due.now) }
+fn more_due(alloc: Global, makers: &Makers, due: &[u32]) -> Result<Vec<u32>, NoMemory>
+    requires { AreMakersOf makers.now }
+    ensures { IfOk result (λ more. more.items ≡ specs.more_due makers.now.frame.facts.now makers.now.spans.items
+        due.now) }
 {
-    let read = read_for(alloc, facts, makers, due)?;
-    let read_marks = marked(alloc, facts, &read)?;
-    let due_marks = marked(alloc, facts, due)?;
+    let read = read_for(alloc, makers, due)?;
+    let read_marks = marked(alloc, makers.frame.facts, &read)?;
+    let due_marks = marked(alloc, makers.frame.facts, due)?;
     let mut more = Vec::new(alloc);
-    for class in 0..next_class(facts.graph()) {
-        if is_more_due(facts, &due_marks, &read_marks, class) {
+    for class in 0..next_class(makers.frame.facts.graph()) {
+        if is_more_due(makers.frame.facts, &due_marks, &read_marks, class) {
             more.push(class)?;
         }
     }
@@ -122,13 +114,13 @@ fn more_due(
 }
 
 /// The due classes, rising. It goes on until a step finds no more.
-pub fn due_classes(alloc: Global, facts: &Facts, makers: &Makers) -> Result<Vec<u32>, NoMemory>
-    requires { AreMakers facts.now makers.now.spans.items makers.now.rows.items makers.now.always.items }
-    ensures { IfOk result (λ due. due.items ≡ specs.due_classes facts.now makers.now.spans.items) }
+pub fn due_classes(alloc: Global, makers: &Makers) -> Result<Vec<u32>, NoMemory>
+    requires { AreMakersOf makers.now }
+    ensures { IfOk result (λ due. due.items ≡ specs.due_classes makers.now.frame.facts.now makers.now.spans.items) }
 {
-    let mut due = first_due(alloc, facts)?;
-    for _step in 0..next_class(facts.graph()) {
-        let more = more_due(alloc, facts, makers, &due)?;
+    let mut due = first_due(alloc, makers.frame.facts)?;
+    for _step in 0..next_class(makers.frame.facts.graph()) {
+        let more = more_due(alloc, makers, &due)?;
         if more.as_slice() == due.as_slice() {
             return Ok(due);
         }

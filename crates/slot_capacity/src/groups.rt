@@ -6,7 +6,7 @@ ghost use Rattle.cycle_encoding.specs.Variables.{slots_of};
 ghost use Rattle.cycle_encoding.specs.Facts as facts;
 ghost use Rattle.slot_capacity.specs.Limits as specs;
 ghost use Rattle.slot_capacity.specs.Makers as reads;
-ghost use Rattle.slot_capacity.specs.MakersSteps.{AreMakers};
+ghost use Rattle.slot_capacity.specs.MakersOf.{AreMakersOf};
 
 use crate::makers::{Makers, has, rows_of};
 use cycle_encoding::{Facts, may_use};
@@ -74,12 +74,16 @@ fn row_belongs(facts: &Facts, table: &Table, group: &[u32], row: u32) -> bool
 }
 
 /// Whether that holds of each row that makes the class.
-pub fn belongs(facts: &Facts, table: &Table, makers: &Makers, group: &[u32], class: u32) -> bool
-    requires table { IsTable table.now }
-    requires makers { AreMakers facts.now makers.now.spans.items makers.now.rows.items makers.now.always.items }
-    ensures { result ≡ specs.belongs facts.now table.now makers.now.spans.items group.now class }
+pub fn belongs(makers: &Makers, group: &[u32], class: u32) -> bool
+    requires table { IsTable makers.now.frame.table.now }
+    requires makers { AreMakersOf makers.now }
+    ensures { result ≡ specs.belongs makers.now.frame.facts.now makers.now.frame.table.now makers.now.spans.items
+        group.now class }
 {
-    rows_of(facts, makers, class)
-        .iter()
-        .all(|row| row_belongs(facts, table, group, *row))
+    rows_of(makers, class).iter().all(|row| row_belongs(
+        makers.frame.facts,
+        makers.frame.table,
+        group,
+        *row,
+    ))
 }

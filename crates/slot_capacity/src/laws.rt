@@ -22,10 +22,9 @@ use cnf_core::counters_count;
 /// launches have the first variables.
 pub fn slots_suffice()
     ensures { (g : Graph) (table : TableOf) (a : AllocationOf) (k : ℕ) (launches : List LaunchOf) (f : Formula)
-        (v : ℕ → Bool) → IsTable table → IsLaunchGraph g → length launches ≤ f.vars
-        → Fits g table a k (shown v (numbered 0 launches))
-        → HasExtension f.vars v
-        (added_capacity g (capacity_of g table a k launches) (numbered 0 launches) f) }
+        (v : ℕ → Bool) → IsTable table → IsLaunchGraph g → length launches ≤ f.vars → Fits g table a k
+        (shown v (numbered 0 launches)) → HasExtension f.vars v (added_capacity g (capacity_of g table a k launches)
+        (numbered 0 launches) f) }
 {
     counters_count();
 }

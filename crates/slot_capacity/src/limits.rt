@@ -5,11 +5,12 @@ ghost use Rattle.schedule_meaning.specs.Limits.{most_cycles};
 ghost use Rattle.machine_table.specs.Tables.{IsTable};
 ghost use Rattle.graph_meaning.specs.WellFormed as classes;
 ghost use Rattle.graph_meaning.specs.WellFormed.{IsLaunchGraph};
+ghost use Rattle.cycle_encoding.specs.Framed.{IsFrame, over};
 ghost use Rattle.cycle_encoding.specs.CycleFormula.{listed_in};
 ghost use Rattle.slot_capacity.specs.Limits as specs;
 ghost use Rattle.slot_capacity.specs.Limits.{capacity_in};
 ghost use Rattle.slot_capacity.specs.Spans.{spans_of};
-ghost use Rattle.slot_capacity.specs.MakersSteps.{AreMakers};
+ghost use Rattle.slot_capacity.specs.MakersOf.{AreMakersOf, by_makers};
 ghost use Rattle.slot_capacity.specs.LimitsSteps as steps;
 ghost use Rattle.slot_capacity.specs.CapacityCounts.{IsSmall};
 ghost use Rattle.slot_capacity.specs.CapacitySteps.{AreApart};
@@ -18,9 +19,9 @@ use crate::deadlines::{Deadline, deadlines};
 use crate::groups::{belongs, groups};
 use crate::makers::{Makers, find_makers};
 use crate::sets::{is_marked, marked};
-use cycle_encoding::{Facts, Scope};
+use crate::spans::Span;
+use cycle_encoding::{Facts, Frame};
 use items::{Items, NoMemory};
-use machine_table::Table;
 use schedule_meaning::Allocation;
 use std::alloc::Global;
 
@@ -67,22 +68,22 @@ fn push_limit(
     limits: &mut Vec<Limit>,
     group: &[u32],
     later: &[Deadline],
-    e: u32,
-    cycle: u32,
+    span: Span,
 ) -> Result<(), NoMemory>
     requires group { length group.now ≤ 8 }
-    requires from { e ≤ cycle }
-    requires to { cycle ≤ most_cycles }
-    ensures { OnOk result (limits.new.items ≡ limits.old.items ++ specs.limit_at group.now later.now e cycle) }
+    requires from { span.first ≤ span.last }
+    requires to { span.last ≤ most_cycles }
+    ensures { OnOk result (limits.new.items ≡ limits.old.items ++ specs.limit_at group.now later.now span.first
+        span.last) }
 {
-    let due = coming_by(alloc, later, cycle)?;
-    let most = group.len() as u32 * (cycle + 1 - e);
+    let due = coming_by(alloc, later, span.last)?;
+    let most = group.len() as u32 * (span.last + 1 - span.first);
     if due.len() <= most as usize {
         return Ok(());
     }
     limits.push(Limit {
         due: Items::from(due),
-        cycle,
+        cycle: span.last,
         most,
     })?;
     Ok(())
@@ -112,7 +113,11 @@ fn push_later(
     ensures { OnOk result (limits.new.items ≡ limits.old.items ++ specs.later_limits group.now later.now e) }
 {
     for cycle in e..last_of(later) + 1 {
-        push_limit(alloc, limits, group, later, e, cycle)?;
+        let span = Span {
+            first: e,
+            last: cycle,
+        };
+        push_limit(alloc, limits, group, later, span)?;
     }
     Ok(())
 }
@@ -138,20 +143,18 @@ fn is_first(members: &[Deadline], e: u32) -> bool
 /// The due classes that belong to a group.
 fn members(
     alloc: Global,
-    facts: &Facts,
-    table: &Table,
     makers: &Makers,
     deadlines: &[Deadline],
     group: &[u32],
 ) -> Result<Vec<Deadline>, NoMemory>
-    requires table { IsTable table.now }
-    requires makers { AreMakers facts.now makers.now.spans.items makers.now.rows.items makers.now.always.items }
-    ensures { IfOk result (λ members. members.items
-        ≡ steps.members_of facts.now table.now makers.now.spans.items deadlines.now group.now) }
+    requires table { IsTable makers.now.frame.table.now }
+    requires makers { AreMakersOf makers.now }
+    ensures { IfOk result (λ members. members.items ≡ steps.members_of makers.now.frame.facts.now
+        makers.now.frame.table.now makers.now.spans.items deadlines.now group.now) }
 {
     let mut members = Vec::new(alloc);
     for one in deadlines {
-        let keep = belongs(facts, table, makers, group, one.class);
+        let keep = belongs(makers, group, one.class);
         push_if(&mut members, keep, *one)?;
     }
     Ok(members)
@@ -199,52 +202,32 @@ fn push_group(
 fn push_limits(
     alloc: Global,
     limits: &mut Vec<Limit>,
-    facts: &Facts,
-    table: &Table,
     makers: &Makers,
     deadlines: &[Deadline],
-    k: u32,
     group: &[u32],
 ) -> Result<(), NoMemory>
-    requires table { IsTable table.now }
-    requires makers { AreMakers facts.now makers.now.spans.items makers.now.rows.items makers.now.always.items }
+    requires table { IsTable makers.now.frame.table.now }
+    requires makers { AreMakersOf makers.now }
     requires early { All (λ x. x.last ≤ most_cycles) deadlines.now }
     requires group { length group.now ≤ 8 }
     ensures { OnOk result (limits.new.items ≡ limits.old.items
-        ++ specs.group_limits facts.now table.now k makers.now.spans.items deadlines.now group.now) }
+        ++ by_makers makers.now specs.group_limits deadlines.now group.now) }
 {
-    let members = members(alloc, facts, table, makers, deadlines, group)?;
-    push_group(alloc, limits, group, &members, k)
+    let members = members(alloc, makers, deadlines, group)?;
+    push_group(alloc, limits, group, &members, makers.frame.k)
 }
 
 /// All limits: by group, then by the cycle from which they count, then by that up to which.
-fn limits(
-    alloc: Global,
-    facts: &Facts,
-    table: &Table,
-    makers: &Makers,
-    deadlines: &[Deadline],
-    k: u32,
-) -> Result<Vec<Limit>, NoMemory>
-    requires table { IsTable table.now }
-    requires makers { AreMakers facts.now makers.now.spans.items makers.now.rows.items makers.now.always.items }
+fn limits(alloc: Global, makers: &Makers, deadlines: &[Deadline]) -> Result<Vec<Limit>, NoMemory>
+    requires table { IsTable makers.now.frame.table.now }
+    requires makers { AreMakersOf makers.now }
     requires early { All (λ x. x.last ≤ most_cycles) deadlines.now }
-    ensures { IfOk result (λ limits. limits.items
-        ≡ specs.all_limits facts.now table.now k makers.now.spans.items deadlines.now) }
+    ensures { IfOk result (λ limits. limits.items ≡ by_makers makers.now specs.all_limits deadlines.now) }
 {
     let mut limits = Vec::new(alloc);
-    let groups = groups(alloc, table)?;
+    let groups = groups(alloc, makers.frame.table)?;
     for group in groups.as_slice() {
-        push_limits(
-            alloc,
-            &mut limits,
-            facts,
-            table,
-            makers,
-            deadlines,
-            k,
-            group.as_slice(),
-        )?;
+        push_limits(alloc, &mut limits, makers, deadlines, group.as_slice())?;
     }
     Ok(limits)
 }
@@ -291,65 +274,42 @@ fn counted(
 
 impl Capacity {
     /// What the formula of a scope says of due classes in k cycles: by live ranges alone anything.
-    pub fn of(
-        alloc: Global,
-        facts: &Facts,
-        table: &Table,
-        scope: &Scope,
-        k: u32,
-    ) -> Result<Capacity, NoMemory>
-        requires cycles { k ≤ most_cycles }
-        requires table { IsTable table.now }
-        requires graph { IsLaunchGraph facts.now }
-        ensures value { IfOk result (λ c. c ≡ capacity_in scope.now facts.now table.now k) }
+    pub fn of(alloc: Global, frame: &Frame) -> Result<Capacity, NoMemory>
+        requires frame { IsFrame frame.now }
+        ensures value { IfOk result (λ c. c ≡ capacity_in frame.now.scope.now frame.now.facts.now frame.now.table.now
+            frame.now.k) }
         ensures small { IfOk result (λ c. IsSmall c) }
         ensures apart { IfOk result (λ c. AreApart c.counted) }
     {
-        find_capacity(alloc, facts, table, scope, k)
+        find_capacity(alloc, frame)
     }
 }
 
 /// What the formula of a scope says of due classes.
-fn find_capacity(
-    alloc: Global,
-    facts: &Facts,
-    table: &Table,
-    scope: &Scope,
-    k: u32,
-) -> Result<Capacity, NoMemory>
-    requires cycles { k ≤ most_cycles }
-    requires table { IsTable table.now }
-    requires graph { IsLaunchGraph facts.now }
-    ensures { IfOk result (λ c. c ≡ capacity_in scope.now facts.now table.now k) }
+fn find_capacity(alloc: Global, frame: &Frame) -> Result<Capacity, NoMemory>
+    requires frame { IsFrame frame.now }
+    ensures { IfOk result (λ c. c ≡ capacity_in frame.now.scope.now frame.now.facts.now frame.now.table.now frame.now.k) }
 {
-    match scope.allocation() {
+    match frame.scope.allocation() {
         Allocation::Block => Ok(Capacity {
             counted: Items::new(alloc),
             limits: Items::new(alloc),
         }),
-        Allocation::Live => live_capacity(alloc, facts, table, scope, k),
+        Allocation::Live => live_capacity(alloc, frame),
     }
 }
 
 /// The same by live ranges.
-fn live_capacity(
-    alloc: Global,
-    facts: &Facts,
-    table: &Table,
-    scope: &Scope,
-    k: u32,
-) -> Result<Capacity, NoMemory>
-    requires cycles { k ≤ most_cycles }
-    requires table { IsTable table.now }
-    requires graph { IsLaunchGraph facts.now }
-    ensures { IfOk result (λ c. c ≡ specs.capacity_by facts.now table.now k
-        (spans_of facts.now (listed_in facts.now table.now k scope.now).launches)) }
+fn live_capacity(alloc: Global, frame: &Frame) -> Result<Capacity, NoMemory>
+    requires frame { IsFrame frame.now }
+    ensures { IfOk result (λ c. c ≡ specs.capacity_by frame.now.facts.now frame.now.table.now frame.now.k
+        (spans_of frame.now.facts.now (over frame.now listed_in).launches)) }
 {
-    let makers = find_makers(alloc, facts, table, scope, k)?;
-    let deadlines = deadlines(alloc, facts, table, &makers, k)?;
+    let makers = find_makers(alloc, frame)?;
+    let deadlines = deadlines(alloc, &makers)?;
     let all = deadlines.as_slice();
-    let limits = limits(alloc, facts, table, &makers, all, k)?;
-    let counted = counted(alloc, facts, limits.as_slice(), all)?;
+    let limits = limits(alloc, &makers, all)?;
+    let counted = counted(alloc, frame.facts, limits.as_slice(), all)?;
     Ok(of_parts(counted, limits))
 }
 

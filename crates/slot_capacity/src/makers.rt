@@ -1,9 +1,9 @@
 // What rows read, and which of them make each class.
 ghost use Rattle.std.specs.Prelude.{◌≡◌, ◌≤◌, ◌<◌, ◌^◌, ◌++◌, ◌==◌, ◌&&◌, map, not, false, length, slice_get, IfOk, OnOk};
-ghost use Rattle.std.specs.Option.{option_map_or};
 ghost use Rattle.std.specs.List.{list_all};
 ghost use Rattle.graph_meaning.specs.WellFormed.{IsLaunchGraph};
 ghost use Rattle.schedule_meaning.specs.Launches as launches;
+ghost use Rattle.cycle_encoding.specs.Framed.{IsFrame, over};
 ghost use Rattle.cycle_encoding.specs.Counts.{row_is};
 ghost use Rattle.cycle_encoding.specs.Facts.{classes_among, one_or_none};
 ghost use Rattle.cycle_encoding.specs.Families as families;
@@ -11,48 +11,52 @@ ghost use Rattle.cycle_encoding.specs.Narrow as narrow;
 ghost use Rattle.cycle_encoding.specs.Variables.{classes_of, row_numbers};
 ghost use Rattle.slot_capacity.specs.Makers as specs;
 ghost use Rattle.slot_capacity.specs.MakersSteps as steps;
-ghost use Rattle.slot_capacity.specs.MakersSteps.{AreMakers};
+ghost use Rattle.slot_capacity.specs.MakersOf.{AreMakersOf, AreReads};
 ghost use Rattle.slot_capacity.specs.Spans.{spans_of};
-ghost use Rattle.schedule_meaning.specs.Limits.{most_cycles};
-ghost use Rattle.machine_table.specs.Tables.{IsTable};
 ghost use Rattle.cycle_encoding.specs.CycleFormula.{listed_in};
 
 use crate::spans::{Span, spans};
-use cycle_encoding::{Facts, Scope, empty_lists, next_class, put_into};
+use cycle_encoding::{Facts, Frame, empty_lists, next_class, put_into};
 use items::{Items, NoMemory};
-use machine_table::{InstrKind, Table};
+use machine_table::InstrKind;
 use schedule_meaning::{class_at, memory_class_at, operand_at, operand_count};
 use std::alloc::Global;
 
 /// For each row's number the span of its launches; and for each class the rows that make it, and the classes that all
 /// of these read.
 #[derive(Drop)]
-pub struct Makers {
+pub struct Makers<'a> {
+    pub frame: Frame<'a>,
     pub spans: Vec<Option<Span>>,
     pub rows: Vec<Items<u32>>,
     pub always: Vec<Items<u32>>,
 }
 
+/// What the rows of a graph read, by their numbers.
+#[derive(Drop)]
+struct Reads<'a> {
+    facts: &'a Facts<'a>,
+    of_rows: Vec<Items<u32>>,
+}
+
 /// Which rows make the classes, of those whose launches have variables in the formula of a scope.
-pub fn find_makers(
-    alloc: Global,
-    facts: &Facts,
-    table: &Table,
-    scope: &Scope,
-    k: u32,
-) -> Result<Makers, NoMemory>
-    requires cycles { k ≤ most_cycles }
-    requires table { IsTable table.now }
-    requires graph { IsLaunchGraph facts.now }
+pub fn find_makers<'a>(alloc: Global, frame: &Frame<'a>) -> Result<Makers<'a>, NoMemory>
+    requires frame { IsFrame frame.now }
     ensures spans { IfOk result (λ m. m.spans.items
-        ≡ spans_of facts.now (listed_in facts.now table.now k scope.now).launches) }
-    ensures makers { IfOk result (λ m. AreMakers facts.now m.spans.items m.rows.items m.always.items) }
+        ≡ spans_of frame.now.facts.now (over frame.now listed_in).launches) }
+    ensures frame { IfOk result (λ m. m.frame ≡ frame.now) }
+    ensures makers { IfOk result AreMakersOf }
 {
-    let spans = spans(alloc, facts, table, scope, k)?;
-    let reads = all_reads(alloc, facts)?;
-    let rows = all_makers(alloc, facts, &reads, &spans)?;
-    let always = all_always(alloc, facts, &reads, &rows, &spans)?;
+    let spans = spans(alloc, frame)?;
+    let of_rows = all_reads(alloc, frame.facts)?;
+    let reads = Reads {
+        facts: frame.facts,
+        of_rows,
+    };
+    let rows = all_makers(alloc, &reads, &spans)?;
+    let always = all_always(alloc, &reads, &rows, &spans)?;
     Ok(Makers {
+        frame: *frame,
         spans,
         rows,
         always,
@@ -60,9 +64,9 @@ pub fn find_makers(
 }
 
 /// The rows that make the class.
-pub fn rows_of<'a>(_facts: &Facts, makers: &'a Makers, class: u32) -> &'a [u32]
-    requires { AreMakers _facts.now makers.now.spans.items makers.now.rows.items makers.now.always.items }
-    ensures { result.now ≡ specs.makers_of _facts.now makers.now.spans.items class }
+pub fn rows_of<'a>(makers: &'a Makers, class: u32) -> &'a [u32]
+    requires { AreMakersOf makers.now }
+    ensures { result.now ≡ specs.makers_of makers.now.frame.facts.now makers.now.spans.items class }
 {
     match makers.rows.get(class as usize) {
         Some(rows) => rows.as_slice(),
@@ -71,9 +75,9 @@ pub fn rows_of<'a>(_facts: &Facts, makers: &'a Makers, class: u32) -> &'a [u32]
 }
 
 /// The classes that each row reads which makes the class.
-pub fn always_at<'a>(_facts: &Facts, makers: &'a Makers, class: u32) -> &'a [u32]
-    requires { AreMakers _facts.now makers.now.spans.items makers.now.rows.items makers.now.always.items }
-    ensures { result.now ≡ steps.always_of _facts.now makers.now.spans.items class }
+pub fn always_at<'a>(makers: &'a Makers, class: u32) -> &'a [u32]
+    requires { AreMakersOf makers.now }
+    ensures { result.now ≡ steps.always_of makers.now.frame.facts.now makers.now.spans.items class }
 {
     match makers.always.get(class as usize) {
         Some(always) => always.as_slice(),
@@ -115,8 +119,7 @@ fn reads_of(alloc: Global, facts: &Facts, row: u32) -> Result<Vec<u32>, NoMemory
 
 /// Adds the class of the operand at a place, if there is one that needs a register.
 fn push_read_at(reads: &mut Vec<u32>, facts: &Facts, row: u32, at: usize) -> Result<(), NoMemory>
-    ensures { OnOk result (reads.new.items ≡ reads.old.items
-        ++ classes_among (λ o. not (families.is_free facts.now o))
+    ensures { OnOk result (reads.new.items ≡ reads.old.items ++ classes_among (λ o. not (families.is_free facts.now o))
         (one_or_none (slice_get (launches.operands_at facts.now row) at))) }
 {
     let Some(operand) = operand_at(facts.graph(), row, at) else {
@@ -141,11 +144,11 @@ fn all_reads(alloc: Global, facts: &Facts) -> Result<Vec<Items<u32>>, NoMemory>
 }
 
 /// The classes that a launch of the row reads.
-fn reads_at<'a>(_facts: &Facts, reads: &'a [Items<u32>], row: u32) -> &'a [u32]
-    requires { reads.now ≡ map (specs.reads_of _facts.now) (row_numbers _facts.now) }
-    ensures { result.now ≡ specs.reads_of _facts.now row }
+fn reads_at<'a>(reads: &'a Reads, row: u32) -> &'a [u32]
+    requires { AreReads reads.now }
+    ensures { result.now ≡ specs.reads_of reads.now.facts.now row }
 {
-    match reads.get(row as usize) {
+    match reads.of_rows.get(row as usize) {
         Some(reads) => reads.as_slice(),
         None => &[],
     }
@@ -173,19 +176,18 @@ fn makes(facts: &Facts, reads: &[u32], spans: &[Option<Span>], row: u32) -> bool
 /// For each class the rows that make it, of those whose launches have variables.
 fn all_makers(
     alloc: Global,
-    facts: &Facts,
-    reads: &[Items<u32>],
+    reads: &Reads,
     spans: &[Option<Span>],
 ) -> Result<Vec<Items<u32>>, NoMemory>
-    requires graph { IsLaunchGraph facts.now }
-    requires reads { reads.now ≡ map (specs.reads_of facts.now) (row_numbers facts.now) }
+    requires graph { IsLaunchGraph reads.now.facts.now }
+    requires reads { AreReads reads.now }
     ensures { IfOk result (λ lists. lists.items
-        ≡ map (specs.makers_of facts.now spans.now) (classes_of facts.now)) }
+        ≡ map (specs.makers_of reads.now.facts.now spans.now) (classes_of reads.now.facts.now)) }
 {
-    let mut lists = empty_lists(alloc, next_class(facts.graph()))?;
-    for row in 0..facts.row_numbers() {
-        if makes(facts, reads_at(facts, reads, row), spans, row) {
-            put_into(&mut lists, class_at(facts.graph(), row), row)?;
+    let mut lists = empty_lists(alloc, next_class(reads.facts.graph()))?;
+    for row in 0..reads.facts.row_numbers() {
+        if makes(reads.facts, reads_at(reads, row), spans, row) {
+            put_into(&mut lists, class_at(reads.facts.graph(), row), row)?;
         }
     }
     Ok(lists)
@@ -204,40 +206,34 @@ fn can_come(spans: &[Option<Span>], row: u32) -> bool
 /// For each class the classes that each row which makes it reads, if some does.
 fn all_always(
     alloc: Global,
-    facts: &Facts,
-    reads: &[Items<u32>],
+    reads: &Reads,
     makers: &[Items<u32>],
     _spans: &[Option<Span>],
 ) -> Result<Vec<Items<u32>>, NoMemory>
-    requires reads { reads.now ≡ map (specs.reads_of facts.now) (row_numbers facts.now) }
+    requires reads { AreReads reads.now }
     requires makers { makers.now
-        ≡ map (specs.makers_of facts.now _spans.now) (classes_of facts.now) }
-    ensures { IfOk result (λ lists. lists.items ≡ map (steps.always_of facts.now _spans.now)
-        (classes_of facts.now)) }
+        ≡ map (specs.makers_of reads.now.facts.now _spans.now) (classes_of reads.now.facts.now) }
+    ensures { IfOk result (λ lists. lists.items ≡ map (steps.always_of reads.now.facts.now _spans.now)
+        (classes_of reads.now.facts.now)) }
 {
     let mut lists = Vec::new(alloc);
     for rows in makers {
-        lists.push(Items::from(always_of(alloc, facts, reads, rows.as_slice())?))?;
+        lists.push(Items::from(always_of(alloc, reads, rows.as_slice())?))?;
     }
     Ok(lists)
 }
 
 /// The classes that each of the rows reads: those of the first that the others read too.
-fn always_of(
-    alloc: Global,
-    _facts: &Facts,
-    reads: &[Items<u32>],
-    rows: &[u32],
-) -> Result<Vec<u32>, NoMemory>
-    requires reads { reads.now ≡ map (specs.reads_of _facts.now) (row_numbers _facts.now) }
-    ensures { IfOk result (λ always. always.items ≡ steps.always_among _facts.now rows.now) }
+fn always_of(alloc: Global, reads: &Reads, rows: &[u32]) -> Result<Vec<u32>, NoMemory>
+    requires reads { AreReads reads.now }
+    ensures { IfOk result (λ always. always.items ≡ steps.always_among reads.now.facts.now rows.now) }
 {
     let mut always = Vec::new(alloc);
     let Some(first) = rows.first() else {
         return Ok(always);
     };
-    for class in reads_at(_facts, reads, *first) {
-        if all_read(_facts, reads, rows, *class) {
+    for class in reads_at(reads, *first) {
+        if all_read(reads, rows, *class) {
             always.push(*class)?;
         }
     }
@@ -245,10 +241,9 @@ fn always_of(
 }
 
 /// Whether each of the rows reads the class.
-fn all_read(_facts: &Facts, reads: &[Items<u32>], rows: &[u32], class: u32) -> bool
-    requires reads { reads.now ≡ map (specs.reads_of _facts.now) (row_numbers _facts.now) }
-    ensures { result ≡ list_all (λ row. specs.has (specs.reads_of _facts.now row) class) rows.now }
+fn all_read(reads: &Reads, rows: &[u32], class: u32) -> bool
+    requires reads { AreReads reads.now }
+    ensures { result ≡ list_all (λ row. specs.has (specs.reads_of reads.now.facts.now row) class) rows.now }
 {
-    rows.iter()
-        .all(|row| has(reads_at(_facts, reads, *row), class))
+    rows.iter().all(|row| has(reads_at(reads, *row), class))
 }

@@ -8,14 +8,13 @@ use Rattle.cycle_encoding.proofs.by_destination.launches_from.Goals as goal
 
 pub loop-row-preserved : goal.loop-row-preserved
 loop-row-preserved c =
-    let g = c.args.facts.now in
-    let table = c.args.table.now in
-    let k = c.args.k in
+    let g = c.args.frame.now.facts.now in
+    let table = c.args.frame.now.table.now in
+    let k = c.args.frame.now.k in
     let row = c.loop-row.row in
-    let a = allocation_in c.args.scope.now in
-    let before : List Launch = flat_map (λ row. row_launches g table a k (first_cycle_in c.args.scope.now row) row) (range_with_len 0 row) in
+    let a = allocation_in c.args.frame.now.scope.now in
+    let before : List Launch = flat_map (λ row. row_launches g table a k (first_cycle_in c.args.frame.now.scope.now row) row) (range_with_len 0 row) in
     c.in_ok-push_row.ensures
-    ∙ ap (λ (ls : List Launch). ls ++ row_launches g table c.allocation.result k c.first-first.result row) c.loop-row.invariant
-    ∙ ap (λ x. before ++ row_launches g table x k c.first-first.result row) c.allocation.ensures
+    ∙ ap (λ (ls : List Launch). ls ++ row_launches g table a k c.first-first.result row) c.loop-row.invariant
     ∙ ap (λ (o : Option ℕ). before ++ row_launches g table a k o row) c.first-first.ensures
-    ∙ sym (rows_more g table a k (first_cycle_in c.args.scope.now) row)
+    ∙ sym (rows_more g table a k (first_cycle_in c.args.frame.now.scope.now) row)

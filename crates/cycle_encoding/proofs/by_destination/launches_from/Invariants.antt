@@ -6,4 +6,4 @@ use Rattle.cycle_encoding.specs.Variables.{row_launches}
 use Rattle.cycle_encoding.proofs.by_destination.launches_from.Given as goal
 
 abbrev pub invariant-loop-row : goal.invariant-loop-row
-invariant-loop-row l = l.launches.items ≡ flat_map (λ row. row_launches l.facts l.table (allocation_in l.scope) l.k (first_cycle_in l.scope row) row) (range_with_len 0 l.row)
+invariant-loop-row l = l.launches.items ≡ flat_map (λ row. row_launches l.frame.facts.now l.frame.table.now (allocation_in l.frame.scope.now) l.frame.k (first_cycle_in l.frame.scope.now row) row) (range_with_len 0 l.row)

@@ -2,6 +2,8 @@ use Rattle.std.proofs.Common.{◌≡◌, ◌+◌, ◌++◌, ◌∙◌, ℕ, List
 use Rattle.schedule_meaning.specs.declared.schedules.To.{To}
 use Rattle.schedule_meaning.specs.declared.schedules.Launch.{Launch}
 use Rattle.cycle_encoding.specs.Facts.{destined_slot, destined_slots}
+use Rattle.cycle_encoding.specs.CycleFormula.{allocation_in}
+use Rattle.cycle_encoding.specs.Counts.{row_destinations}
 use Rattle.cycle_encoding.proofs.Tables.{grown, same}
 use Rattle.cycle_encoding.proofs.Destined.{row_is, slot_more, slot_left}
 use Rattle.cycle_encoding.proofs.by_destination.push_row.Goals.{then-may_use+in_ok-push_slot, else-may_use}
@@ -9,7 +11,7 @@ use Rattle.cycle_encoding.proofs.by_destination.push_row.Goals as goal
 
 pub loop-slot-preserved : goal.loop-slot-preserved
 loop-slot-preserved c =
-    let table = c.args.table.now in
+    let table = c.args.frame.now.table.now in
     let instr = c.in-Some.instr in
     let row = c.args.row in
     let first = c.in-Some-first.first in
@@ -31,8 +33,8 @@ loop-slot-preserved c =
 
 pub returns : goal.returns
 returns c =
-    let g = c.args.facts.now in
-    let table = c.args.table.now in
+    let g = c.args.frame.now.facts.now in
+    let table = c.args.frame.now.table.now in
     let instr = c.in-Some.instr in
     let row = c.args.row in
     let first = c.in-Some-first.first in
@@ -42,4 +44,4 @@ returns c =
     c.loop-slot.invariant
     ∙ ap (λ (s : ℕ). old ++ destined_slots table instr row first c.cycles-cycles.result tos s) end
     ∙ ap (λ (n : ℕ). old ++ destined_slots table instr row first n tos (length table.slots)) c.cycles-cycles.ensures
-    ∙ ap (λ (ls : List Launch). old ++ ls) (sym (row_is g table c.args.allocation c.args.k c.args.first row instr c.in-Some-latency.latency first tos (sym c.instr_at.ensures ∙ c.in-Some.is) (sym c.latency.ensures ∙ c.in-Some-latency.is) c.in-Some-first.is c.in_ok-tos.ensures.value))
+    ∙ ap (λ (ls : List Launch). old ++ ls) (sym (row_is g table (allocation_in c.args.frame.now.scope.now) c.args.frame.now.k c.args.first row instr c.in-Some-latency.latency first tos (sym c.instr_at.ensures ∙ c.in-Some.is) (sym c.latency.ensures ∙ c.in-Some-latency.is) c.in-Some-first.is (c.in_ok-tos.ensures.value ∙ ap (λ x. row_destinations g x row) c.allocation.ensures)))

@@ -9,4 +9,4 @@ loop-step-preserved c =
     let tos = c.args.tos.now in
     let first = c.args.first in
     let n = c.loop-step.step in
-    grown c.args.launches.now.items c.loop-step.launches.items c.push_cycle.new.launches.items (cycle_launches c.args.row c.args.slot tos (first + n)) (destined_slot c.args.row first n tos c.args.slot) (destined_slot c.args.row first (n + 1) tos c.args.slot) c.loop-step.invariant c.in_ok-push_cycle.ensures (cycle_more c.args.row c.args.slot first n tos)
+    grown c.args.launches.now.items c.loop-step.launches.items c.push_cycle.new.launches.items (cycle_launches c.args.place.row c.args.place.slot tos (first + n)) (destined_slot c.args.place.row first n tos c.args.place.slot) (destined_slot c.args.place.row first (n + 1) tos c.args.place.slot) c.loop-step.invariant c.in_ok-push_cycle.ensures (cycle_more c.args.place.row c.args.place.slot first n tos)

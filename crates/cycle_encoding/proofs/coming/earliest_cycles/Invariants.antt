@@ -5,7 +5,7 @@ use Rattle.cycle_encoding.proofs.coming.earliest_cycles.Given as goal
 
 abbrev pub invariant-loop-cycle : goal.invariant-loop-cycle
 invariant-loop-cycle l = record {
-  long : length l.come.items ≡ next_class l.facts.rows;
-  sound : AreSound l.facts l.table l.allocation l.come.items;
-  passed : (cycle row : ℕ) → cycle < l.cycle → IsPassed l.facts l.table l.allocation l.come.items cycle row;
+  long : length l.come.items ≡ next_class l.rows.facts.now.rows;
+  sound : AreSound l.rows.facts.now l.rows.table.now l.rows.allocation l.come.items;
+  passed : (cycle row : ℕ) → cycle < l.cycle → IsPassed l.rows.facts.now l.rows.table.now l.rows.allocation l.come.items cycle row;
 }

@@ -6,4 +6,4 @@ use Rattle.cycle_encoding.specs.Counts.{row_destinations}
 use Rattle.cycle_encoding.proofs.destined_counts.launch_count.Given as goal
 
 abbrev pub invariant-loop-row : goal.invariant-loop-row
-invariant-loop-row l = record { is : l.count ≡ sum_by (λ row. row_count l.facts l.table l.k l.scope row * sum_by (λ to. 1) (row_destinations l.facts (allocation_in l.scope) row)) (range_with_len 0 l.row); small : l.count ≤ l.row * 6400 }
+invariant-loop-row l = record { is : l.count ≡ sum_by (λ row. row_count l.frame.facts.now l.frame.table.now l.frame.k l.frame.scope.now row * sum_by (λ to. 1) (row_destinations l.frame.facts.now (allocation_in l.frame.scope.now) row)) (range_with_len 0 l.row); small : l.count ≤ l.row * 6400 }

@@ -8,8 +8,8 @@ use Rattle.cycle_encoding.proofs.encoding.build_cycles.Goals as goal
 
 pub add_families-requires-clause-empty : goal.add_families-requires-clause-empty
 add_families-requires-clause-empty c =
-    let g = c.args.facts.now in
-    let k = c.args.k in
+    let g = c.args.frame.now.facts.now in
+    let k = c.args.frame.now.k in
     let launches = c.deref.result.now in
     let seen = c.in_ok-seen.seen.seen.items in
     let one : length c.as_slice.result.now ≡ length launches = ap (λ (ls : List Launch). length ls) (c.as_slice.ensures.value ∙ sym c.deref.ensures.value) in

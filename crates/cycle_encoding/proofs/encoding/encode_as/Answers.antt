@@ -1,5 +1,6 @@
 use Rattle.std.proofs.Common.{◌≡◌, ◌∙◌, ap, sym, subst, arith, ℕ, length}
 use Rattle.std.proofs.lemmas.Result.{err_from_is_err_and}
+use Rattle.graph_meaning.specs.WellFormed.{IsLaunchGraph}
 use Rattle.graph_meaning.specs.declared.graphs.LaunchGraph.{LaunchGraph}
 use Rattle.machine_table.specs.declared.tables.Table.{Table}
 use Rattle.cycle_encoding.specs.CycleFormula.{allocation_in}
@@ -110,3 +111,19 @@ returns-clause-within c =
     let clauses = c.cycle_sizes.ensures.clauses ∙ ap (λ (x : LaunchGraph). cycle_size x table k s) c.in_ok-facts.ensures ∙ sym (c.cycle_counts_are_found.ensures.clauses g table k s) in
     λ l a. subst (λ x. IsTooLarge (cycle_formula g table k x) → ⊥) (sym (c.each_encoding_has_one_list.ensures c.args.encoding g table k l (listed_in g table k s) a own))
     (c.in_ok-within_limits.ensures.within (cycle_formula g table k (listed_in g table k s)) vars clauses)
+
+pub cycle_sizes-requires : goal.cycle_sizes-requires
+cycle_sizes-requires c = record {
+  frame = record {
+    graph = subst IsLaunchGraph (sym c.in_ok-facts.ensures) c.requires.graph;
+    table = c.requires.table;
+    cycles = c.requires.cycles;
+  };
+}
+
+pub build_cycles-requires-clause-frame : goal.build_cycles-requires-clause-frame
+build_cycles-requires-clause-frame c = record {
+  graph = subst IsLaunchGraph (sym c.in_ok-facts.ensures) c.requires.graph;
+  table = c.requires.table;
+  cycles = c.requires.cycles;
+}

@@ -8,4 +8,4 @@ use Rattle.cycle_encoding.specs.Steps.{with_clauses}
 use Rattle.cycle_encoding.proofs.families.add_operands.Given as goal
 
 abbrev pub invariant-loop-index : goal.invariant-loop-index
-invariant-loop-index l = l.cnf ≡ with_clauses l.initial.cnf (implied (numbered 0 (take l.index l.launches)) (λ x. map (operand_clause l.facts l.table (numbered l.seen.first l.seen.seen.items) (numbered l.over.first (all_overwritten l.facts l.over.cycles)) x) (filter (is_needed l.facts x) (operands_at l.facts x.row))))
+invariant-loop-index l = l.cnf ≡ with_clauses l.initial.cnf (implied (numbered 0 (take l.index l.vars.launches.now)) (λ x. map (operand_clause l.vars.frame.facts.now l.vars.frame.table.now (numbered l.vars.seen.first l.vars.seen.seen.items) (numbered l.vars.over.first (all_overwritten l.vars.frame.facts.now l.vars.over.cycles)) x) (filter (is_needed l.vars.frame.facts.now x) (operands_at l.vars.frame.facts.now x.row))))

@@ -9,10 +9,10 @@ use Rattle.cycle_encoding.proofs.families.add_seen.Goals as goal
 
 pub add_thing-requires-clause-room : goal.add_thing-requires-clause-room
 add_thing-requires-clause-room c =
-    let f = λ (d : Seen). vars_of (makes c.args.facts.now c.args.table.now d) (numbered 0 c.args.launches.now) ∷ [] in
+    let f = λ (d : Seen). vars_of (makes c.args.vars.now.frame.facts.now c.args.vars.now.frame.table.now d) (numbered 0 c.args.vars.now.launches.now) ∷ [] in
     let lt = subst (λ (xs : List Seen). c.loop-index.index < length xs) c.as_slice-thing-items.ensures.value c.loop-index-test.true in
-    let room = implied_room f c.args.seen.now.first c.args.seen.now.seen.items c.loop-index.index (record { class = 0; cluster = 0; cycle = 0 }) c.args.cnf.now c.loop-index.cnf lt c.loop-index.invariant c.requires.room in
+    let room = implied_room f c.args.vars.now.seen.first c.args.vars.now.seen.seen.items c.loop-index.index (record { class = 0; cluster = 0; cycle = 0 }) c.args.cnf.now c.loop-index.cnf lt c.loop-index.invariant c.requires.room in
     omega arith
 
 pub loop-index-preserved : goal.loop-index-preserved
-loop-index-preserved c = seen_step c.args.facts.now c.args.table.now c.args.launches.now c.args.seen.now.first c.as_slice-thing-items.result.now c.args.seen.now.seen.items c.loop-index.index _ c.args.cnf.now c.loop-index.cnf c.add_thing.new.cnf (c.args.seen.now.first + c.loop-index.index + 1) c.as_slice-thing-items.ensures.value c.loop-index-test.true c.loop-index.invariant refl c.in_ok-add_thing.ensures
+loop-index-preserved c = seen_step c.args.vars.now.frame.facts.now c.args.vars.now.frame.table.now c.args.vars.now.launches.now c.args.vars.now.seen.first c.as_slice-thing-items.result.now c.args.vars.now.seen.seen.items c.loop-index.index _ c.args.cnf.now c.loop-index.cnf c.add_thing.new.cnf (c.args.vars.now.seen.first + c.loop-index.index + 1) c.as_slice-thing-items.ensures.value c.loop-index-test.true c.loop-index.invariant refl c.in_ok-add_thing.ensures

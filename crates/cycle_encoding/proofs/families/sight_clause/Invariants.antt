@@ -5,4 +5,4 @@ use Rattle.cycle_encoding.specs.Steps.{is_ready}
 use Rattle.cycle_encoding.proofs.families.sight_clause.Given as goal
 
 abbrev pub invariant-loop-maker : goal.invariant-loop-maker
-invariant-loop-maker l = l.clause.items ≡ negative l.var ∷ map (λ p. positive p.0) (filter (λ p. is_ready l.facts l.table l.thing p.1) (take l.maker-index l.given))
+invariant-loop-maker l = l.clause.items ≡ negative l.sight.var ∷ map (λ p. positive p.0) (filter (λ p. is_ready l.frame.facts.now l.frame.table.now l.sight.thing p.1) (take l.maker-index l.given))

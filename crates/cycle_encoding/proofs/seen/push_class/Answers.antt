@@ -11,8 +11,8 @@ use Rattle.cycle_encoding.proofs.seen.push_class.Goals as goal
 
 pub loop-cluster-preserved : goal.loop-cluster-preserved
 loop-cluster-preserved c =
-    let table = c.args.table.now in
-    let k = c.args.k in
+    let table = c.args.frame.now.table.now in
+    let k = c.args.frame.now.k in
     let class = c.args.class in
     let i = c.loop-cluster.cluster in
     let old = c.args.seen.now.items in
@@ -29,8 +29,8 @@ loop-cluster-preserved c =
 
 pub returns : goal.returns
 returns c =
-    let b = is_unsafe_shown c.args.facts.now (wants_in c.args.scope.now) c.args.class in
+    let b = is_unsafe_shown c.args.frame.now.facts.now (wants_in c.args.frame.now.scope.now) c.args.class in
     let old = c.args.seen.now.items in
-    let all = clusters_seen c.args.table.now c.args.k 4 c.args.class in
+    let all = clusters_seen c.args.frame.now.table.now c.args.frame.now.k 4 c.args.class in
     let end : c.loop-cluster.cluster ≡ 4 = (let a = c.loop-cluster-test.false in let e = c.loop-cluster.auto.cluster-end in omega arith) in
-    added b old all c.loop-cluster.seen.items (sym c.is_shown.ensures ∙ c.if-not-is_shown.false) (c.loop-cluster.invariant ∙ ap (λ (n : ℕ). old ++ clusters_seen c.args.table.now c.args.k n c.args.class) end)
+    added b old all c.loop-cluster.seen.items (sym c.is_shown.ensures ∙ c.if-not-is_shown.false) (c.loop-cluster.invariant ∙ ap (λ (n : ℕ). old ++ clusters_seen c.args.frame.now.table.now c.args.frame.now.k n c.args.class) end)

@@ -7,6 +7,6 @@ use Rattle.cycle_encoding.proofs.seen.seen_vars.Given as goal
 
 abbrev pub invariant-loop-class : goal.invariant-loop-class
 invariant-loop-class l = record {
-  seen : l.seen.items ≡ flat_map (clusters_seen l.table l.k 4) (filter (is_unsafe_shown l.facts (wants_in l.scope)) (range_with_len 0 l.class));
-  starts : l.starts.items ≡ map (seen_before l.facts (wants_in l.scope) l.table l.k) (range_with_len 0 l.class);
+  seen : l.seen.items ≡ flat_map (clusters_seen l.frame.table.now l.frame.k 4) (filter (is_unsafe_shown l.frame.facts.now (wants_in l.frame.scope.now)) (range_with_len 0 l.class));
+  starts : l.starts.items ≡ map (seen_before l.frame.facts.now (wants_in l.frame.scope.now) l.frame.table.now l.frame.k) (range_with_len 0 l.class);
 }

@@ -4,8 +4,8 @@ use Rattle.cycle_encoding.proofs.wanting.close.Given as goal
 
 abbrev pub invariant-loop-at : goal.invariant-loop-at
 invariant-loop-at l = record {
-  size : length l.marks.items ≡ length l.initial.marks.items;
-  marks : AreWantedMarks l.facts l.marks.items l.order.items;
-  still : StillMarked l.initial.marks.items l.marks.items;
-  done : (p : ℕ) → p < l.at → p < length l.order.items → IsFollowed l.facts l.marks.items (get_or l.order.items p 0);
+  size : length l.wants.marks.items ≡ length l.initial.wants.marks.items;
+  marks : AreWantedMarks l.facts l.wants.marks.items l.wants.order.items;
+  still : StillMarked l.initial.wants.marks.items l.wants.marks.items;
+  done : (p : ℕ) → p < l.at → p < length l.wants.order.items → IsFollowed l.facts l.wants.marks.items (get_or l.wants.order.items p 0);
 }

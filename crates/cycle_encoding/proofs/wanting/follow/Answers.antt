@@ -47,9 +47,9 @@ loop-row-preserved c =
     record {
       size = n.size ∙ v.size;
       marks = n.marks;
-      longer = longer-both c.args.order.now.items c.loop-row.order.items c.want_all.new.order.items v.longer n.longer;
+      longer = longer-both c.args.wants.now.order.items c.loop-row.wants.order.items c.want_all.new.wants.order.items v.longer n.longer;
       still = λ class h. n.still class (v.still class h);
-      has = more-rows g c.loop-row.marks.items c.want_all.new.marks.items c.args.rows.now i 0 c.loop-row-test.true n.still n.size v.has (subst (λ (cs : List ℕ). AreAllMarked c.want_all.new.marks.items cs) e n.has);
+      has = more-rows g c.loop-row.wants.marks.items c.want_all.new.wants.marks.items c.args.rows.now i 0 c.loop-row-test.true n.still n.size v.has (subst (λ (cs : List ℕ). AreAllMarked c.want_all.new.wants.marks.items cs) e n.has);
     }
 
 pub returns-clause-followed : goal.returns-clause-followed

@@ -11,10 +11,10 @@ loop-class-preserved c =
     record {
       size = e.size ∙ i.size;
       marks = e.marks;
-      longer = longer-both c.args.order.now.items c.loop-class.order.items c.want.new.order.items i.longer e.longer;
+      longer = longer-both c.args.wants.now.order.items c.loop-class.wants.order.items c.want.new.wants.order.items i.longer e.longer;
       still = λ class h. e.still class (i.still class h);
-      has = more-marks c.loop-class.marks.items c.want.new.marks.items c.args.classes.now c.loop-class.class-index _ c.loop-class-test.true e.still e.size i.has e.has;
+      has = more-marks c.loop-class.wants.marks.items c.want.new.wants.marks.items c.args.classes.now c.loop-class.class-index _ c.loop-class-test.true e.still e.size i.has e.has;
     }
 
 pub returns-clause-has : goal.returns-clause-has
-returns-clause-has c = subst (λ (cs : List ℕ). AreAllMarked c.loop-class.marks.items cs) (take_all c.loop-class.class-index c.args.classes.now c.loop-class-test.false) c.loop-class.invariant.has
+returns-clause-has c = subst (λ (cs : List ℕ). AreAllMarked c.loop-class.wants.marks.items cs) (take_all c.loop-class.class-index c.args.classes.now c.loop-class-test.false) c.loop-class.invariant.has

@@ -4,9 +4,9 @@ use Rattle.cycle_encoding.proofs.wanting.want_all.Given as goal
 
 abbrev pub invariant-loop-class : goal.invariant-loop-class
 invariant-loop-class l = record {
-  size : length l.marks.items ≡ length l.initial.marks.items;
-  marks : AreWantedMarks l.facts l.marks.items l.order.items;
-  longer : IsLonger l.initial.order.items l.order.items;
-  still : StillMarked l.initial.marks.items l.marks.items;
-  has : AreAllMarked l.marks.items (take l.class-index l.classes);
+  size : length l.wants.marks.items ≡ length l.initial.wants.marks.items;
+  marks : AreWantedMarks l.facts l.wants.marks.items l.wants.order.items;
+  longer : IsLonger l.initial.wants.order.items l.wants.order.items;
+  still : StillMarked l.initial.wants.marks.items l.wants.marks.items;
+  has : AreAllMarked l.wants.marks.items (take l.class-index l.classes);
 }

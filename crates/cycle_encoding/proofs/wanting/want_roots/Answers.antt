@@ -32,7 +32,7 @@ loop-row-preserved c =
       size = e.size ∙ i.size;
       marks = e.marks;
       still = λ class h. e.still class (i.still class h);
-      has = more-roots c.args.facts.now c.loop-row.marks.items c.want_root.new.marks.items c.loop-row.row e.still e.size i.has e.has;
+      has = more-roots c.args.facts.now c.loop-row.wants.marks.items c.want_root.new.wants.marks.items c.loop-row.row e.still e.size i.has e.has;
     }
 
 pub returns-clause-has : goal.returns-clause-has

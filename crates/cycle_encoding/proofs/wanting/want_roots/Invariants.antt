@@ -5,8 +5,8 @@ use Rattle.cycle_encoding.proofs.wanting.want_roots.Given as goal
 
 abbrev pub invariant-loop-row : goal.invariant-loop-row
 invariant-loop-row l = record {
-  size : length l.marks.items ≡ length l.initial.marks.items;
-  marks : AreWantedMarks l.facts l.marks.items l.order.items;
-  still : StillMarked l.initial.marks.items l.marks.items;
-  has : (row : ℕ) → row < l.row → IsTrue (is_root l.facts row) → AreAllMarked l.marks.items (wanted_needs l.facts row);
+  size : length l.wants.marks.items ≡ length l.initial.wants.marks.items;
+  marks : AreWantedMarks l.facts l.wants.marks.items l.wants.order.items;
+  still : StillMarked l.initial.wants.marks.items l.wants.marks.items;
+  has : (row : ℕ) → row < l.row → IsTrue (is_root l.facts row) → AreAllMarked l.wants.marks.items (wanted_needs l.facts row);
 }

@@ -22,12 +22,12 @@ loop-set-preserved c =
     record {
       size = n.size ∙ i.size;
       marks = n.marks;
-      has = more-targets c.args.facts.now c.loop-set.marks.items c.want_target.new.marks.items k c.set-item.result c.set-item.result (subst (λ (xs : List SetClass). k < length xs) e c.loop-set-test.true) (c.set-item.is ∙ ap (λ (xs : List SetClass). get_or xs k c.set-item.result) e) n.still n.size i.has n.has;
+      has = more-targets c.args.facts.now c.loop-set.wants.marks.items c.want_target.new.wants.marks.items k c.set-item.result c.set-item.result (subst (λ (xs : List SetClass). k < length xs) e c.loop-set-test.true) (c.set-item.is ∙ ap (λ (xs : List SetClass). get_or xs k c.set-item.result) e) n.still n.size i.has n.has;
     }
 
 pub returns-clause-has : goal.returns-clause-has
 returns-clause-has c =
     let k = c.loop-set.set-index in
     let e = c.as_slice-set-items.ensures ∙ ap (λ (g : LaunchGraph). g.sets) c.graph.ensures in
-    subst (λ (sets : List SetClass). (s : SetClass) → Contains sets s → IsTrue (is_wanted_target c.args.facts.now s) → AreAllMarked c.loop-set.marks.items (s.class ∷ []))
+    subst (λ (sets : List SetClass). (s : SetClass) → Contains sets s → IsTrue (is_wanted_target c.args.facts.now s) → AreAllMarked c.loop-set.wants.marks.items (s.class ∷ []))
     (take_all k c.args.facts.now.sets (subst (λ (xs : List SetClass). length xs ≤ k) e c.loop-set-test.false)) c.loop-set.invariant.has

@@ -6,7 +6,7 @@ use Rattle.cycle_encoding.proofs.wanting.want_targets.Given as goal
 
 abbrev pub invariant-loop-set : goal.invariant-loop-set
 invariant-loop-set l = record {
-  size : length l.marks.items ≡ length l.initial.marks.items;
-  marks : AreWantedMarks l.facts l.marks.items l.order.items;
-  has : (s : SetClass) → Contains (take l.set-index l.facts.sets) s → IsTrue (is_wanted_target l.facts s) → AreAllMarked l.marks.items (s.class ∷ []);
+  size : length l.wants.marks.items ≡ length l.initial.wants.marks.items;
+  marks : AreWantedMarks l.facts l.wants.marks.items l.wants.order.items;
+  has : (s : SetClass) → Contains (take l.set-index l.facts.sets) s → IsTrue (is_wanted_target l.facts s) → AreAllMarked l.wants.marks.items (s.class ∷ []);
 }

@@ -20,14 +20,14 @@ returns c =
     let one = c.in_ok-want_targets.ensures in
     let two = c.in_ok-want_roots.ensures in
     let three = c.in_ok-close.ensures in
-    let a = c.want_targets.new.marks.items in
-    let b = c.want_roots.new.marks.items in
-    let m = c.close.new.marks.items in
+    let a = c.want_targets.new.wants.marks.items in
+    let b = c.want_roots.new.wants.marks.items in
+    let m = c.close.new.wants.marks.items in
     let size =
     three.size ∙ two.size ∙ one.size
     ∙ ap (λ (xs : List Bool). length xs) c.in_ok-marks.ensures ∙ length-map-range_with_len _ 0 c.next_class-classes.result
     ∙ c.next_class-classes.ensures ∙ ap (λ (g : LaunchGraph). next_class g.rows) c.graph.ensures in
-    marks-exact g c.requires.graph m c.close.new.order.items size three.marks
+    marks-exact g c.requires.graph m c.close.new.wants.order.items size three.marks
     (λ s h t. kept-marks b m (s.class ∷ []) three.still three.size (kept-marks a b (s.class ∷ []) two.still two.size (one.has s h t)))
     (λ row lt t. kept-marks b m (wanted_needs g row) three.still three.size (two.has row lt t))
     three.followed

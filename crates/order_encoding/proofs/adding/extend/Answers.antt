@@ -15,10 +15,10 @@ use Rattle.order_encoding.proofs.adding.extend.Goals as goal
 
 pub extend_by_memory-requires-clause-exist : goal.extend_by_memory-requires-clause-exist
 extend_by_memory-requires-clause-exist c =
-    let g = c.args.facts.now in
-    let table = c.args.table.now in
-    let k = c.args.k in
-    let s = c.args.scope.now in
+    let g = c.args.plan.now.frame.facts.now in
+    let table = c.args.plan.now.frame.table.now in
+    let k = c.args.plan.now.frame.k in
+    let s = c.args.plan.now.frame.scope.now in
     let e = listed_in g table k s in
     let f = c.args.cnf.now in
     let before = before_named c.args.part Memory c.in-Memory.is g table k s f c.requires.formula in
@@ -28,46 +28,46 @@ extend_by_memory-requires-clause-exist c =
 
 pub extend_by_memory-requires-clause-vars : goal.extend_by_memory-requires-clause-vars
 extend_by_memory-requires-clause-vars c =
-    let g = c.args.facts.now in
-    let table = c.args.table.now in
-    let k = c.args.k in
-    let s = c.args.scope.now in
+    let g = c.args.plan.now.frame.facts.now in
+    let table = c.args.plan.now.frame.table.now in
+    let k = c.args.plan.now.frame.k in
+    let s = c.args.plan.now.frame.scope.now in
     let e = listed_in g table k s in
     let f = c.args.cnf.now in
     let before = before_named c.args.part Memory c.in-Memory.is g table k s f c.requires.formula in
-    let is = memory_is g table k e c.args.launches.now c.requires.launches f before in
+    let is = memory_is g table k e c.args.plan.now.launches.now c.requires.launches f before in
     subst (λ (x : Formula). x.vars ≤ most_vars) (sym is) (vars_named c.args.part Memory c.in-Memory.is g table k s c.requires.within)
 
 pub extend_by_memory-requires-clause-clauses : goal.extend_by_memory-requires-clause-clauses
 extend_by_memory-requires-clause-clauses c =
-    let g = c.args.facts.now in
-    let table = c.args.table.now in
-    let k = c.args.k in
-    let s = c.args.scope.now in
+    let g = c.args.plan.now.frame.facts.now in
+    let table = c.args.plan.now.frame.table.now in
+    let k = c.args.plan.now.frame.k in
+    let s = c.args.plan.now.frame.scope.now in
     let e = listed_in g table k s in
     let f = c.args.cnf.now in
     let before = before_named c.args.part Memory c.in-Memory.is g table k s f c.requires.formula in
-    let is = memory_is g table k e c.args.launches.now c.requires.launches f before in
+    let is = memory_is g table k e c.args.plan.now.launches.now c.requires.launches f before in
     subst (λ (x : Formula). length x.clauses ≤ most_clauses) (sym is) (clauses_named c.args.part Memory c.in-Memory.is g table k s c.requires.within)
 
 pub returns-in-Memory : goal.returns-in-Memory
 returns-in-Memory c =
-    let g = c.args.facts.now in
-    let table = c.args.table.now in
-    let k = c.args.k in
-    let s = c.args.scope.now in
+    let g = c.args.plan.now.frame.facts.now in
+    let table = c.args.plan.now.frame.table.now in
+    let k = c.args.plan.now.frame.k in
+    let s = c.args.plan.now.frame.scope.now in
     let e = listed_in g table k s in
     let f = c.args.cnf.now in
     let before = before_named c.args.part Memory c.in-Memory.is g table k s f c.requires.formula in
-    let is = memory_is g table k e c.args.launches.now c.requires.launches f before in
+    let is = memory_is g table k e c.args.plan.now.launches.now c.requires.launches f before in
     on_ok_more _ _ c.extend_by_memory.result (λ new. after_named c.args.part Memory c.in-Memory.is g table k s c.extend_by_memory.new.cnf (new ∙ is)) c.extend_by_memory.ensures
 
 pub extend_by_guard-requires-clause-exist : goal.extend_by_guard-requires-clause-exist
 extend_by_guard-requires-clause-exist c =
-    let g = c.args.facts.now in
-    let table = c.args.table.now in
-    let k = c.args.k in
-    let s = c.args.scope.now in
+    let g = c.args.plan.now.frame.facts.now in
+    let table = c.args.plan.now.frame.table.now in
+    let k = c.args.plan.now.frame.k in
+    let s = c.args.plan.now.frame.scope.now in
     let e = listed_in g table k s in
     let f = c.args.cnf.now in
     let before = before_named c.args.part Guard c.in-Guard.is g table k s f c.requires.formula in
@@ -77,134 +77,134 @@ extend_by_guard-requires-clause-exist c =
 
 pub extend_by_guard-requires-clause-vars : goal.extend_by_guard-requires-clause-vars
 extend_by_guard-requires-clause-vars c =
-    let g = c.args.facts.now in
-    let table = c.args.table.now in
-    let k = c.args.k in
-    let s = c.args.scope.now in
+    let g = c.args.plan.now.frame.facts.now in
+    let table = c.args.plan.now.frame.table.now in
+    let k = c.args.plan.now.frame.k in
+    let s = c.args.plan.now.frame.scope.now in
     let e = listed_in g table k s in
     let f = c.args.cnf.now in
     let before = before_named c.args.part Guard c.in-Guard.is g table k s f c.requires.formula in
-    let is = guard_is g table k e c.args.launches.now c.requires.launches f before in
+    let is = guard_is g table k e c.args.plan.now.launches.now c.requires.launches f before in
     subst (λ (x : Formula). x.vars ≤ most_vars) (sym is) (vars_named c.args.part Guard c.in-Guard.is g table k s c.requires.within)
 
 pub extend_by_guard-requires-clause-clauses : goal.extend_by_guard-requires-clause-clauses
 extend_by_guard-requires-clause-clauses c =
-    let g = c.args.facts.now in
-    let table = c.args.table.now in
-    let k = c.args.k in
-    let s = c.args.scope.now in
+    let g = c.args.plan.now.frame.facts.now in
+    let table = c.args.plan.now.frame.table.now in
+    let k = c.args.plan.now.frame.k in
+    let s = c.args.plan.now.frame.scope.now in
     let e = listed_in g table k s in
     let f = c.args.cnf.now in
     let before = before_named c.args.part Guard c.in-Guard.is g table k s f c.requires.formula in
-    let is = guard_is g table k e c.args.launches.now c.requires.launches f before in
+    let is = guard_is g table k e c.args.plan.now.launches.now c.requires.launches f before in
     subst (λ (x : Formula). length x.clauses ≤ most_clauses) (sym is) (clauses_named c.args.part Guard c.in-Guard.is g table k s c.requires.within)
 
 pub returns-in-Guard : goal.returns-in-Guard
 returns-in-Guard c =
-    let g = c.args.facts.now in
-    let table = c.args.table.now in
-    let k = c.args.k in
-    let s = c.args.scope.now in
+    let g = c.args.plan.now.frame.facts.now in
+    let table = c.args.plan.now.frame.table.now in
+    let k = c.args.plan.now.frame.k in
+    let s = c.args.plan.now.frame.scope.now in
     let e = listed_in g table k s in
     let f = c.args.cnf.now in
     let before = before_named c.args.part Guard c.in-Guard.is g table k s f c.requires.formula in
-    let is = guard_is g table k e c.args.launches.now c.requires.launches f before in
+    let is = guard_is g table k e c.args.plan.now.launches.now c.requires.launches f before in
     on_ok_more _ _ c.extend_by_guard.result (λ new. after_named c.args.part Guard c.in-Guard.is g table k s c.extend_by_guard.new.cnf (new ∙ is)) c.extend_by_guard.ensures
 
 pub extend_by_pool-requires-clause-formula : goal.extend_by_pool-requires-clause-formula
 extend_by_pool-requires-clause-formula c =
-    let g = c.args.facts.now in
-    let table = c.args.table.now in
-    let k = c.args.k in
-    let s = c.args.scope.now in
+    let g = c.args.plan.now.frame.facts.now in
+    let table = c.args.plan.now.frame.table.now in
+    let k = c.args.plan.now.frame.k in
+    let s = c.args.plan.now.frame.scope.now in
     let e = listed_in g table k s in
     let f = c.args.cnf.now in
     before_named c.args.part Pool c.in-Pool.is g table k s f c.requires.formula
 
 pub extend_by_pool-requires-clause-overwritten : goal.extend_by_pool-requires-clause-overwritten
 extend_by_pool-requires-clause-overwritten c =
-    let g = c.args.facts.now in
-    let table = c.args.table.now in
-    let k = c.args.k in
-    let s = c.args.scope.now in
+    let g = c.args.plan.now.frame.facts.now in
+    let table = c.args.plan.now.frame.table.now in
+    let k = c.args.plan.now.frame.k in
+    let s = c.args.plan.now.frame.scope.now in
     let e = listed_in g table k s in
     let f = c.args.cnf.now in
-    subst (λ p. KnowsOverwritten p c.args.overwritten e) c.in-Pool.is c.requires.overwritten
+    subst (λ p. KnowsOverwritten p c.args.plan.now.overwritten e) c.in-Pool.is c.requires.overwritten
 
 pub extend_by_pool-requires-clause-within : goal.extend_by_pool-requires-clause-within
 extend_by_pool-requires-clause-within c =
-    let g = c.args.facts.now in
-    let table = c.args.table.now in
-    let k = c.args.k in
-    let s = c.args.scope.now in
+    let g = c.args.plan.now.frame.facts.now in
+    let table = c.args.plan.now.frame.table.now in
+    let k = c.args.plan.now.frame.k in
+    let s = c.args.plan.now.frame.scope.now in
     let e = listed_in g table k s in
     let f = c.args.cnf.now in
     subst (λ p. IsTooLarge (with_part p g table k e) → ⊥) c.in-Pool.is c.requires.within
 
 pub returns-in-Pool : goal.returns-in-Pool
 returns-in-Pool c =
-    let g = c.args.facts.now in
-    let table = c.args.table.now in
-    let k = c.args.k in
-    let s = c.args.scope.now in
+    let g = c.args.plan.now.frame.facts.now in
+    let table = c.args.plan.now.frame.table.now in
+    let k = c.args.plan.now.frame.k in
+    let s = c.args.plan.now.frame.scope.now in
     let e = listed_in g table k s in
     let f = c.args.cnf.now in
     on_ok_more _ _ c.extend_by_pool.result (λ new. after_named c.args.part Pool c.in-Pool.is g table k s c.extend_by_pool.new.cnf new) c.extend_by_pool.ensures
 
 pub before_stores-stores-requires-clause-few : goal.before_stores-stores-requires-clause-few
 before_stores-stores-requires-clause-few c =
-    let g = c.args.facts.now in
-    let table = c.args.table.now in
-    let k = c.args.k in
-    let e = listed_in g table k c.args.scope.now in
+    let g = c.args.plan.now.frame.facts.now in
+    let table = c.args.plan.now.frame.table.now in
+    let k = c.args.plan.now.frame.k in
+    let e = listed_in g table k c.args.plan.now.frame.scope.now in
     let within = subst (λ p. IsTooLarge (with_part p g table k e) → ⊥) c.in-Pins.is c.requires.within in
     let most = within_vars (memory_formula g table k e) (λ t. within (memory_pins g table k e t)) in
     omega arith
 
 pub before_branch-branches-requires-clause-few : goal.before_branch-branches-requires-clause-few
 before_branch-branches-requires-clause-few c =
-    let e = listed_in c.args.facts.now c.args.table.now c.args.k c.args.scope.now in
-    let within = subst (λ p. IsTooLarge (with_part p c.args.facts.now c.args.table.now c.args.k e) → ⊥) c.in-Pins.is c.requires.within in
-    within_vars (memory_formula c.args.facts.now c.args.table.now c.args.k e) (λ t. within (memory_pins c.args.facts.now c.args.table.now c.args.k e t))
+    let e = listed_in c.args.plan.now.frame.facts.now c.args.plan.now.frame.table.now c.args.plan.now.frame.k c.args.plan.now.frame.scope.now in
+    let within = subst (λ p. IsTooLarge (with_part p c.args.plan.now.frame.facts.now c.args.plan.now.frame.table.now c.args.plan.now.frame.k e) → ⊥) c.in-Pins.is c.requires.within in
+    within_vars (memory_formula c.args.plan.now.frame.facts.now c.args.plan.now.frame.table.now c.args.plan.now.frame.k e) (λ t. within (memory_pins c.args.plan.now.frame.facts.now c.args.plan.now.frame.table.now c.args.plan.now.frame.k e t))
 
 pub extend_by_pins-requires-clause-launches : goal.extend_by_pins-requires-clause-launches
 extend_by_pins-requires-clause-launches c =
-    let g = c.args.facts.now in
-    let table = c.args.table.now in
-    let k = c.args.k in
-    let s = c.args.scope.now in
+    let g = c.args.plan.now.frame.facts.now in
+    let table = c.args.plan.now.frame.table.now in
+    let k = c.args.plan.now.frame.k in
+    let s = c.args.plan.now.frame.scope.now in
     let e = listed_in g table k s in
     let f = c.args.cnf.now in
     let before = before_named c.args.part Pins c.in-Pins.is g table k s f c.requires.formula in
-    let over : c.args.overwritten ≡ before_overwritten e = subst (λ p. KnowsOverwritten p c.args.overwritten e) c.in-Pins.is c.requires.overwritten in
+    let over : c.args.plan.now.overwritten ≡ before_overwritten e = subst (λ p. KnowsOverwritten p c.args.plan.now.overwritten e) c.in-Pins.is c.requires.overwritten in
     let branches = c.before_branch-branches.ensures in
     let long = ap (λ (ls : List Launch). length ls) c.requires.launches in
     omega arith
 
 pub extend_by_pins-requires-clause-exist : goal.extend_by_pins-requires-clause-exist
 extend_by_pins-requires-clause-exist c =
-    let g = c.args.facts.now in
-    let table = c.args.table.now in
-    let k = c.args.k in
-    let s = c.args.scope.now in
+    let g = c.args.plan.now.frame.facts.now in
+    let table = c.args.plan.now.frame.table.now in
+    let k = c.args.plan.now.frame.k in
+    let s = c.args.plan.now.frame.scope.now in
     let e = listed_in g table k s in
     let f = c.args.cnf.now in
     let before = before_named c.args.part Pins c.in-Pins.is g table k s f c.requires.formula in
-    let over : c.args.overwritten ≡ before_overwritten e = subst (λ p. KnowsOverwritten p c.args.overwritten e) c.in-Pins.is c.requires.overwritten in
+    let over : c.args.plan.now.overwritten ≡ before_overwritten e = subst (λ p. KnowsOverwritten p c.args.plan.now.overwritten e) c.in-Pins.is c.requires.overwritten in
     let branches = c.before_branch-branches.ensures in
     let within = over_within g table k e in
     omega arith
 
 pub extend_by_pins-requires-clause-branches : goal.extend_by_pins-requires-clause-branches
 extend_by_pins-requires-clause-branches c =
-    let g = c.args.facts.now in
-    let table = c.args.table.now in
-    let k = c.args.k in
-    let s = c.args.scope.now in
+    let g = c.args.plan.now.frame.facts.now in
+    let table = c.args.plan.now.frame.table.now in
+    let k = c.args.plan.now.frame.k in
+    let s = c.args.plan.now.frame.scope.now in
     let e = listed_in g table k s in
     let f = c.args.cnf.now in
     let before = before_named c.args.part Pins c.in-Pins.is g table k s f c.requires.formula in
-    let over : c.args.overwritten ≡ before_overwritten e = subst (λ p. KnowsOverwritten p c.args.overwritten e) c.in-Pins.is c.requires.overwritten in
+    let over : c.args.plan.now.overwritten ≡ before_overwritten e = subst (λ p. KnowsOverwritten p c.args.plan.now.overwritten e) c.in-Pins.is c.requires.overwritten in
     let branches = c.before_branch-branches.ensures in
     let within = come_within g table k e in
     let many : f.vars ≡ (pool_formula g table k e).vars = ap (λ (x : Formula). x.vars) before in
@@ -212,52 +212,52 @@ extend_by_pins-requires-clause-branches c =
 
 pub extend_by_pins-requires-clause-vars : goal.extend_by_pins-requires-clause-vars
 extend_by_pins-requires-clause-vars c =
-    let g = c.args.facts.now in
-    let table = c.args.table.now in
-    let k = c.args.k in
-    let s = c.args.scope.now in
+    let g = c.args.plan.now.frame.facts.now in
+    let table = c.args.plan.now.frame.table.now in
+    let k = c.args.plan.now.frame.k in
+    let s = c.args.plan.now.frame.scope.now in
     let e = listed_in g table k s in
     let f = c.args.cnf.now in
     let before = before_named c.args.part Pins c.in-Pins.is g table k s f c.requires.formula in
-    let over : c.args.overwritten ≡ before_overwritten e = subst (λ p. KnowsOverwritten p c.args.overwritten e) c.in-Pins.is c.requires.overwritten in
+    let over : c.args.plan.now.overwritten ≡ before_overwritten e = subst (λ p. KnowsOverwritten p c.args.plan.now.overwritten e) c.in-Pins.is c.requires.overwritten in
     let branches = c.before_branch-branches.ensures in
-    let is = pins_is g table k e c.args.launches.now c.requires.launches f c.args.overwritten c.before_branch-branches.result c.before_stores-stores.result over branches c.before_stores-stores.ensures before in
+    let is = pins_is g table k e c.args.plan.now.launches.now c.requires.launches f c.args.plan.now.overwritten c.before_branch-branches.result c.before_stores-stores.result over branches c.before_stores-stores.ensures before in
     subst (λ (x : Formula). x.vars ≤ most_vars) (sym is) (vars_named c.args.part Pins c.in-Pins.is g table k s c.requires.within)
 
 pub extend_by_pins-requires-clause-clauses : goal.extend_by_pins-requires-clause-clauses
 extend_by_pins-requires-clause-clauses c =
-    let g = c.args.facts.now in
-    let table = c.args.table.now in
-    let k = c.args.k in
-    let s = c.args.scope.now in
+    let g = c.args.plan.now.frame.facts.now in
+    let table = c.args.plan.now.frame.table.now in
+    let k = c.args.plan.now.frame.k in
+    let s = c.args.plan.now.frame.scope.now in
     let e = listed_in g table k s in
     let f = c.args.cnf.now in
     let before = before_named c.args.part Pins c.in-Pins.is g table k s f c.requires.formula in
-    let over : c.args.overwritten ≡ before_overwritten e = subst (λ p. KnowsOverwritten p c.args.overwritten e) c.in-Pins.is c.requires.overwritten in
+    let over : c.args.plan.now.overwritten ≡ before_overwritten e = subst (λ p. KnowsOverwritten p c.args.plan.now.overwritten e) c.in-Pins.is c.requires.overwritten in
     let branches = c.before_branch-branches.ensures in
-    let is = pins_is g table k e c.args.launches.now c.requires.launches f c.args.overwritten c.before_branch-branches.result c.before_stores-stores.result over branches c.before_stores-stores.ensures before in
+    let is = pins_is g table k e c.args.plan.now.launches.now c.requires.launches f c.args.plan.now.overwritten c.before_branch-branches.result c.before_stores-stores.result over branches c.before_stores-stores.ensures before in
     subst (λ (x : Formula). length x.clauses ≤ most_clauses) (sym is) (clauses_named c.args.part Pins c.in-Pins.is g table k s c.requires.within)
 
 pub returns-in-Pins : goal.returns-in-Pins
 returns-in-Pins c =
-    let g = c.args.facts.now in
-    let table = c.args.table.now in
-    let k = c.args.k in
-    let s = c.args.scope.now in
+    let g = c.args.plan.now.frame.facts.now in
+    let table = c.args.plan.now.frame.table.now in
+    let k = c.args.plan.now.frame.k in
+    let s = c.args.plan.now.frame.scope.now in
     let e = listed_in g table k s in
     let f = c.args.cnf.now in
     let before = before_named c.args.part Pins c.in-Pins.is g table k s f c.requires.formula in
-    let over : c.args.overwritten ≡ before_overwritten e = subst (λ p. KnowsOverwritten p c.args.overwritten e) c.in-Pins.is c.requires.overwritten in
+    let over : c.args.plan.now.overwritten ≡ before_overwritten e = subst (λ p. KnowsOverwritten p c.args.plan.now.overwritten e) c.in-Pins.is c.requires.overwritten in
     let branches = c.before_branch-branches.ensures in
-    let is = pins_is g table k e c.args.launches.now c.requires.launches f c.args.overwritten c.before_branch-branches.result c.before_stores-stores.result over branches c.before_stores-stores.ensures before in
+    let is = pins_is g table k e c.args.plan.now.launches.now c.requires.launches f c.args.plan.now.overwritten c.before_branch-branches.result c.before_stores-stores.result over branches c.before_stores-stores.ensures before in
     on_ok_more _ _ c.extend_by_pins.result (λ new. after_named c.args.part Pins c.in-Pins.is g table k s c.extend_by_pins.new.cnf (new ∙ is)) c.extend_by_pins.ensures
 
 pub extend_by_pins-requires-clause-before_stores : goal.extend_by_pins-requires-clause-before_stores
 extend_by_pins-requires-clause-before_stores c =
-    let g = c.args.facts.now in
-    let table = c.args.table.now in
-    let k = c.args.k in
-    let s = c.args.scope.now in
+    let g = c.args.plan.now.frame.facts.now in
+    let table = c.args.plan.now.frame.table.now in
+    let k = c.args.plan.now.frame.k in
+    let s = c.args.plan.now.frame.scope.now in
     let e = listed_in g table k s in
     let f = c.args.cnf.now in
     let stores = c.before_stores-stores.ensures in
@@ -266,10 +266,10 @@ extend_by_pins-requires-clause-before_stores c =
 
 pub extend_by_pins-requires-clause-stores : goal.extend_by_pins-requires-clause-stores
 extend_by_pins-requires-clause-stores c =
-    let g = c.args.facts.now in
-    let table = c.args.table.now in
-    let k = c.args.k in
-    let s = c.args.scope.now in
+    let g = c.args.plan.now.frame.facts.now in
+    let table = c.args.plan.now.frame.table.now in
+    let k = c.args.plan.now.frame.k in
+    let s = c.args.plan.now.frame.scope.now in
     let e = listed_in g table k s in
     let f = c.args.cnf.now in
     let before = before_named c.args.part Pins c.in-Pins.is g table k s f c.requires.formula in
@@ -280,10 +280,10 @@ extend_by_pins-requires-clause-stores c =
 
 pub extend_by_capacity-requires-clause-exist : goal.extend_by_capacity-requires-clause-exist
 extend_by_capacity-requires-clause-exist c =
-    let g = c.args.facts.now in
-    let table = c.args.table.now in
-    let k = c.args.k in
-    let s = c.args.scope.now in
+    let g = c.args.plan.now.frame.facts.now in
+    let table = c.args.plan.now.frame.table.now in
+    let k = c.args.plan.now.frame.k in
+    let s = c.args.plan.now.frame.scope.now in
     let e = listed_in g table k s in
     let f = c.args.cnf.now in
     let before = before_named c.args.part Capacity c.in-Capacity.is g table k s f c.requires.formula in
@@ -294,36 +294,36 @@ extend_by_capacity-requires-clause-exist c =
 
 pub extend_by_capacity-requires-clause-vars : goal.extend_by_capacity-requires-clause-vars
 extend_by_capacity-requires-clause-vars c =
-    let g = c.args.facts.now in
-    let table = c.args.table.now in
-    let k = c.args.k in
-    let s = c.args.scope.now in
+    let g = c.args.plan.now.frame.facts.now in
+    let table = c.args.plan.now.frame.table.now in
+    let k = c.args.plan.now.frame.k in
+    let s = c.args.plan.now.frame.scope.now in
     let e = listed_in g table k s in
     let f = c.args.cnf.now in
     let before = before_named c.args.part Capacity c.in-Capacity.is g table k s f c.requires.formula in
-    let is = capacity_is g table k e c.args.launches.now c.requires.launches f c.in_ok-capacity-in-Capacity.capacity c.in_ok-capacity-in-Capacity.ensures.value before in
+    let is = capacity_is g table k e c.args.plan.now.launches.now c.requires.launches f c.args.plan.now.capacity.now c.requires.capacity.is before in
     subst (λ (x : Formula). x.vars ≤ most_vars) (sym is) (vars_named c.args.part Capacity c.in-Capacity.is g table k s c.requires.within)
 
 pub extend_by_capacity-requires-clause-clauses : goal.extend_by_capacity-requires-clause-clauses
 extend_by_capacity-requires-clause-clauses c =
-    let g = c.args.facts.now in
-    let table = c.args.table.now in
-    let k = c.args.k in
-    let s = c.args.scope.now in
+    let g = c.args.plan.now.frame.facts.now in
+    let table = c.args.plan.now.frame.table.now in
+    let k = c.args.plan.now.frame.k in
+    let s = c.args.plan.now.frame.scope.now in
     let e = listed_in g table k s in
     let f = c.args.cnf.now in
     let before = before_named c.args.part Capacity c.in-Capacity.is g table k s f c.requires.formula in
-    let is = capacity_is g table k e c.args.launches.now c.requires.launches f c.in_ok-capacity-in-Capacity.capacity c.in_ok-capacity-in-Capacity.ensures.value before in
+    let is = capacity_is g table k e c.args.plan.now.launches.now c.requires.launches f c.args.plan.now.capacity.now c.requires.capacity.is before in
     subst (λ (x : Formula). length x.clauses ≤ most_clauses) (sym is) (clauses_named c.args.part Capacity c.in-Capacity.is g table k s c.requires.within)
 
-pub returns-in_ok-capacity-in-Capacity : goal.returns-in_ok-capacity-in-Capacity
-returns-in_ok-capacity-in-Capacity c =
-    let g = c.args.facts.now in
-    let table = c.args.table.now in
-    let k = c.args.k in
-    let s = c.args.scope.now in
+pub returns-in-Capacity : goal.returns-in-Capacity
+returns-in-Capacity c =
+    let g = c.args.plan.now.frame.facts.now in
+    let table = c.args.plan.now.frame.table.now in
+    let k = c.args.plan.now.frame.k in
+    let s = c.args.plan.now.frame.scope.now in
     let e = listed_in g table k s in
     let f = c.args.cnf.now in
     let before = before_named c.args.part Capacity c.in-Capacity.is g table k s f c.requires.formula in
-    let is = capacity_is g table k e c.args.launches.now c.requires.launches f c.in_ok-capacity-in-Capacity.capacity c.in_ok-capacity-in-Capacity.ensures.value before in
+    let is = capacity_is g table k e c.args.plan.now.launches.now c.requires.launches f c.args.plan.now.capacity.now c.requires.capacity.is before in
     on_ok_more _ _ c.extend_by_capacity.result (λ new. after_named c.args.part Capacity c.in-Capacity.is g table k s c.extend_by_capacity.new.cnf (new ∙ is)) c.extend_by_capacity.ensures

@@ -13,98 +13,98 @@ use Rattle.order_encoding.proofs.adding.extend_by_pool.Goals as goal
 
 pub extend_by_registers-requires-clause-exist : goal.extend_by_registers-requires-clause-exist
 extend_by_registers-requires-clause-exist c =
-    let g = c.args.facts.now in
-    let table = c.args.table.now in
-    let k = c.args.k in
-    let s = c.args.scope.now in
+    let g = c.args.plan.now.frame.facts.now in
+    let table = c.args.plan.now.frame.table.now in
+    let k = c.args.plan.now.frame.k in
+    let s = c.args.plan.now.frame.scope.now in
     let e = listed_in g table k s in
     let f = c.args.cnf.now in
-    let over = c.args.overwritten in
+    let over = c.args.plan.now.overwritten in
     let long = ap (λ (ls : List Launch). length ls) c.requires.launches in
     let many : f.vars ≡ (guard_formula g table k e).vars = ap (λ (x : Formula). x.vars) c.requires.formula in
     omega arith
 
 pub extend_by_registers-requires-clause-vars : goal.extend_by_registers-requires-clause-vars
 extend_by_registers-requires-clause-vars c =
-    let g = c.args.facts.now in
-    let table = c.args.table.now in
-    let k = c.args.k in
-    let s = c.args.scope.now in
+    let g = c.args.plan.now.frame.facts.now in
+    let table = c.args.plan.now.frame.table.now in
+    let k = c.args.plan.now.frame.k in
+    let s = c.args.plan.now.frame.scope.now in
     let e = listed_in g table k s in
     let f = c.args.cnf.now in
-    let over = c.args.overwritten in
-    let is = pool_is g table k e c.args.launches.now c.requires.launches f over Block c.requires.overwritten c.in-Block.ensures c.requires.formula in
+    let over = c.args.plan.now.overwritten in
+    let is = pool_is g table k e c.args.plan.now.launches.now c.requires.launches f over Block c.requires.overwritten c.in-Block.ensures c.requires.formula in
     subst (λ (x : Formula). x.vars ≤ most_vars) (sym is) (within_vars (pool_formula g table k e) c.requires.within)
 
 pub extend_by_registers-requires-clause-clauses : goal.extend_by_registers-requires-clause-clauses
 extend_by_registers-requires-clause-clauses c =
-    let g = c.args.facts.now in
-    let table = c.args.table.now in
-    let k = c.args.k in
-    let s = c.args.scope.now in
+    let g = c.args.plan.now.frame.facts.now in
+    let table = c.args.plan.now.frame.table.now in
+    let k = c.args.plan.now.frame.k in
+    let s = c.args.plan.now.frame.scope.now in
     let e = listed_in g table k s in
     let f = c.args.cnf.now in
-    let over = c.args.overwritten in
-    let is = pool_is g table k e c.args.launches.now c.requires.launches f over Block c.requires.overwritten c.in-Block.ensures c.requires.formula in
+    let over = c.args.plan.now.overwritten in
+    let is = pool_is g table k e c.args.plan.now.launches.now c.requires.launches f over Block c.requires.overwritten c.in-Block.ensures c.requires.formula in
     subst (λ (x : Formula). length x.clauses ≤ most_clauses) (sym is) (within_clauses (pool_formula g table k e) c.requires.within)
 
 pub returns-in-Block : goal.returns-in-Block
 returns-in-Block c =
-    let g = c.args.facts.now in
-    let table = c.args.table.now in
-    let k = c.args.k in
-    let s = c.args.scope.now in
+    let g = c.args.plan.now.frame.facts.now in
+    let table = c.args.plan.now.frame.table.now in
+    let k = c.args.plan.now.frame.k in
+    let s = c.args.plan.now.frame.scope.now in
     let e = listed_in g table k s in
     let f = c.args.cnf.now in
-    let over = c.args.overwritten in
-    let is = pool_is g table k e c.args.launches.now c.requires.launches f over Block c.requires.overwritten c.in-Block.ensures c.requires.formula in
+    let over = c.args.plan.now.overwritten in
+    let is = pool_is g table k e c.args.plan.now.launches.now c.requires.launches f over Block c.requires.overwritten c.in-Block.ensures c.requires.formula in
     on_ok_more _ _ c.extend_by_registers.result (λ new. new ∙ is) c.extend_by_registers.ensures
 
 pub extend_by_live_ranges-requires-clause-vars : goal.extend_by_live_ranges-requires-clause-vars
 extend_by_live_ranges-requires-clause-vars c =
-    let g = c.args.facts.now in
-    let table = c.args.table.now in
-    let k = c.args.k in
-    let s = c.args.scope.now in
+    let g = c.args.plan.now.frame.facts.now in
+    let table = c.args.plan.now.frame.table.now in
+    let k = c.args.plan.now.frame.k in
+    let s = c.args.plan.now.frame.scope.now in
     let e = listed_in g table k s in
     let f = c.args.cnf.now in
-    let over = c.args.overwritten in
-    let is = pool_is g table k e c.args.launches.now c.requires.launches f over Live c.requires.overwritten c.in-Live.ensures c.requires.formula in
+    let over = c.args.plan.now.overwritten in
+    let is = pool_is g table k e c.args.plan.now.launches.now c.requires.launches f over Live c.requires.overwritten c.in-Live.ensures c.requires.formula in
     subst (λ (x : Formula). x.vars ≤ most_vars) (sym is) (within_vars (pool_formula g table k e) c.requires.within)
 
 pub extend_by_live_ranges-requires-clause-clauses : goal.extend_by_live_ranges-requires-clause-clauses
 extend_by_live_ranges-requires-clause-clauses c =
-    let g = c.args.facts.now in
-    let table = c.args.table.now in
-    let k = c.args.k in
-    let s = c.args.scope.now in
+    let g = c.args.plan.now.frame.facts.now in
+    let table = c.args.plan.now.frame.table.now in
+    let k = c.args.plan.now.frame.k in
+    let s = c.args.plan.now.frame.scope.now in
     let e = listed_in g table k s in
     let f = c.args.cnf.now in
-    let over = c.args.overwritten in
-    let is = pool_is g table k e c.args.launches.now c.requires.launches f over Live c.requires.overwritten c.in-Live.ensures c.requires.formula in
+    let over = c.args.plan.now.overwritten in
+    let is = pool_is g table k e c.args.plan.now.launches.now c.requires.launches f over Live c.requires.overwritten c.in-Live.ensures c.requires.formula in
     subst (λ (x : Formula). length x.clauses ≤ most_clauses) (sym is) (within_clauses (pool_formula g table k e) c.requires.within)
 
 pub returns-in-Live : goal.returns-in-Live
 returns-in-Live c =
-    let g = c.args.facts.now in
-    let table = c.args.table.now in
-    let k = c.args.k in
-    let s = c.args.scope.now in
+    let g = c.args.plan.now.frame.facts.now in
+    let table = c.args.plan.now.frame.table.now in
+    let k = c.args.plan.now.frame.k in
+    let s = c.args.plan.now.frame.scope.now in
     let e = listed_in g table k s in
     let f = c.args.cnf.now in
-    let over = c.args.overwritten in
-    let is = pool_is g table k e c.args.launches.now c.requires.launches f over Live c.requires.overwritten c.in-Live.ensures c.requires.formula in
+    let over = c.args.plan.now.overwritten in
+    let is = pool_is g table k e c.args.plan.now.launches.now c.requires.launches f over Live c.requires.overwritten c.in-Live.ensures c.requires.formula in
     on_ok_more _ _ c.extend_by_live_ranges.result (λ new. new ∙ is) c.extend_by_live_ranges.ensures
 
 pub extend_by_live_ranges-requires-clause-launches : goal.extend_by_live_ranges-requires-clause-launches
 extend_by_live_ranges-requires-clause-launches c =
-    let g = c.args.facts.now in
-    let table = c.args.table.now in
-    let k = c.args.k in
-    let s = c.args.scope.now in
+    let g = c.args.plan.now.frame.facts.now in
+    let table = c.args.plan.now.frame.table.now in
+    let k = c.args.plan.now.frame.k in
+    let s = c.args.plan.now.frame.scope.now in
     let e = listed_in g table k s in
     let f = c.args.cnf.now in
-    let over = c.args.overwritten in
+    let over = c.args.plan.now.overwritten in
     let long = ap (λ (ls : List Launch). length ls) c.requires.launches in
     let many : f.vars ≡ (guard_formula g table k e).vars = ap (λ (x : Formula). x.vars) c.requires.formula in
     let at = c.requires.overwritten in
@@ -112,13 +112,13 @@ extend_by_live_ranges-requires-clause-launches c =
 
 pub extend_by_live_ranges-requires-clause-exist : goal.extend_by_live_ranges-requires-clause-exist
 extend_by_live_ranges-requires-clause-exist c =
-    let g = c.args.facts.now in
-    let table = c.args.table.now in
-    let k = c.args.k in
-    let s = c.args.scope.now in
+    let g = c.args.plan.now.frame.facts.now in
+    let table = c.args.plan.now.frame.table.now in
+    let k = c.args.plan.now.frame.k in
+    let s = c.args.plan.now.frame.scope.now in
     let e = listed_in g table k s in
     let f = c.args.cnf.now in
-    let over = c.args.overwritten in
+    let over = c.args.plan.now.overwritten in
     let long = ap (λ (ls : List Launch). length ls) c.requires.launches in
     let many : f.vars ≡ (guard_formula g table k e).vars = ap (λ (x : Formula). x.vars) c.requires.formula in
     let at = c.requires.overwritten in

@@ -12,9 +12,9 @@ use Rattle.order_encoding.proofs.guard.add_comes.Goals as goal
 
 pub add-requires-clause-exist : goal.add-requires-clause-exist
 add-requires-clause-exist c =
-    let g = c.args.facts.now in
+    let g = c.args.plan.now.frame.facts.now in
     let t = c.loop-cycle.cycle in
-    let ls = c.args.launches.now in
+    let ls = c.args.plan.now.launches.now in
     let var = c.args.first + t + 1 in
     let F = λ (t : ℕ). vars_of (branches_by g t) (numbered 0 ls) ∷ [] in
     let is = put_together c.new-clause.result.items c.push.new.self.items c.push_branches.new.lits.items _ (vars_of (branches_by g t) (numbered 0 ls)) (negative var) c.new-clause.ensures.items c.in_ok-push.ensures.items c.in_ok-push_branches.ensures (branches_are g ls c.args.found.now t c.requires.found) in
@@ -25,20 +25,20 @@ add-requires-clause-exist c =
 
 pub add-requires-clause-room : goal.add-requires-clause-room
 add-requires-clause-room c =
-    let g = c.args.facts.now in
+    let g = c.args.plan.now.frame.facts.now in
     let t = c.loop-cycle.cycle in
-    let ls = c.args.launches.now in
+    let ls = c.args.plan.now.launches.now in
     let F = λ (t : ℕ). vars_of (branches_by g t) (numbered 0 ls) ∷ [] in
     let a = size-with c.args.cnf.now c.loop-cycle.cnf (implied (numbered c.args.first (range_with_len 0 t)) F) c.loop-cycle.invariant in
-    let b = range-clauses-part F c.args.first t c.args.k c.loop-cycle-test.true in
+    let b = range-clauses-part F c.args.first t c.args.plan.now.frame.k c.loop-cycle-test.true in
     let room = c.requires.room in
     omega arith
 
 pub loop-cycle-preserved : goal.loop-cycle-preserved
 loop-cycle-preserved c =
-    let g = c.args.facts.now in
+    let g = c.args.plan.now.frame.facts.now in
     let t = c.loop-cycle.cycle in
-    let ls = c.args.launches.now in
+    let ls = c.args.plan.now.launches.now in
     let var = c.args.first + t + 1 in
     let F = λ (t : ℕ). vars_of (branches_by g t) (numbered 0 ls) ∷ [] in
     let is = put_together c.new-clause.result.items c.push.new.self.items c.push_branches.new.lits.items _ (vars_of (branches_by g t) (numbered 0 ls)) (negative var) c.new-clause.ensures.items c.in_ok-push.ensures.items c.in_ok-push_branches.ensures (branches_are g ls c.args.found.now t c.requires.found) in

@@ -20,10 +20,10 @@ use Rattle.order_encoding.proofs.guard.extend_by_guard.Goals as goal
 
 pub add_vars-requires : goal.add_vars-requires
 add_vars-requires c =
-    let g = c.args.facts.now in
-    let k = c.args.k in
+    let g = c.args.plan.now.frame.facts.now in
+    let k = c.args.plan.now.frame.k in
     let f = c.args.cnf.now in
-    let ls = c.args.launches.now in
+    let ls = c.args.plan.now.launches.now in
     let xs = numbered 0 ls in
     let first = c.vars-first.result in
     let n = f.vars + k in
@@ -40,10 +40,10 @@ add_vars-requires c =
 
 pub add-requires-clause-exist : goal.add-requires-clause-exist
 add-requires-clause-exist c =
-    let g = c.args.facts.now in
-    let k = c.args.k in
+    let g = c.args.plan.now.frame.facts.now in
+    let k = c.args.plan.now.frame.k in
     let f = c.args.cnf.now in
-    let ls = c.args.launches.now in
+    let ls = c.args.plan.now.launches.now in
     let xs = numbered 0 ls in
     let first = c.vars-first.result in
     let n = f.vars + k in
@@ -64,10 +64,10 @@ add-requires-clause-exist c =
 
 pub at_most_one-requires-clause-exist : goal.at_most_one-requires-clause-exist
 at_most_one-requires-clause-exist c =
-    let g = c.args.facts.now in
-    let k = c.args.k in
+    let g = c.args.plan.now.frame.facts.now in
+    let k = c.args.plan.now.frame.k in
     let f = c.args.cnf.now in
-    let ls = c.args.launches.now in
+    let ls = c.args.plan.now.launches.now in
     let xs = numbered 0 ls in
     let first = c.vars-first.result in
     let n = f.vars + k in
@@ -90,10 +90,10 @@ at_most_one-requires-clause-exist c =
 
 pub at_most_one-requires-clause-short : goal.at_most_one-requires-clause-short
 at_most_one-requires-clause-short c =
-    let g = c.args.facts.now in
-    let k = c.args.k in
+    let g = c.args.plan.now.frame.facts.now in
+    let k = c.args.plan.now.frame.k in
     let f = c.args.cnf.now in
-    let ls = c.args.launches.now in
+    let ls = c.args.plan.now.launches.now in
     let xs = numbered 0 ls in
     let first = c.vars-first.result in
     let n = f.vars + k in
@@ -115,10 +115,10 @@ at_most_one-requires-clause-short c =
 
 pub at_most_one-requires-clause-vars : goal.at_most_one-requires-clause-vars
 at_most_one-requires-clause-vars c =
-    let g = c.args.facts.now in
-    let k = c.args.k in
+    let g = c.args.plan.now.frame.facts.now in
+    let k = c.args.plan.now.frame.k in
     let f = c.args.cnf.now in
-    let ls = c.args.launches.now in
+    let ls = c.args.plan.now.launches.now in
     let xs = numbered 0 ls in
     let first = c.vars-first.result in
     let n = f.vars + k in
@@ -141,10 +141,10 @@ at_most_one-requires-clause-vars c =
 
 pub at_most_one-requires-clause-room : goal.at_most_one-requires-clause-room
 at_most_one-requires-clause-room c =
-    let g = c.args.facts.now in
-    let k = c.args.k in
+    let g = c.args.plan.now.frame.facts.now in
+    let k = c.args.plan.now.frame.k in
     let f = c.args.cnf.now in
-    let ls = c.args.launches.now in
+    let ls = c.args.plan.now.launches.now in
     let xs = numbered 0 ls in
     let first = c.vars-first.result in
     let n = f.vars + k in
@@ -167,10 +167,10 @@ at_most_one-requires-clause-room c =
 
 pub add_waits-requires-clause-few : goal.add_waits-requires-clause-few
 add_waits-requires-clause-few c =
-    let g = c.args.facts.now in
-    let k = c.args.k in
+    let g = c.args.plan.now.frame.facts.now in
+    let k = c.args.plan.now.frame.k in
     let f = c.args.cnf.now in
-    let ls = c.args.launches.now in
+    let ls = c.args.plan.now.launches.now in
     let xs = numbered 0 ls in
     let first = c.vars-first.result in
     let n = f.vars + k in
@@ -194,10 +194,10 @@ add_waits-requires-clause-few c =
 
 pub add_waits-requires-clause-room : goal.add_waits-requires-clause-room
 add_waits-requires-clause-room c =
-    let g = c.args.facts.now in
-    let k = c.args.k in
+    let g = c.args.plan.now.frame.facts.now in
+    let k = c.args.plan.now.frame.k in
     let f = c.args.cnf.now in
-    let ls = c.args.launches.now in
+    let ls = c.args.plan.now.launches.now in
     let xs = numbered 0 ls in
     let first = c.vars-first.result in
     let n = f.vars + k in
@@ -220,10 +220,10 @@ add_waits-requires-clause-room c =
 
 pub add_comes-requires-clause-few : goal.add_comes-requires-clause-few
 add_comes-requires-clause-few c =
-    let g = c.args.facts.now in
-    let k = c.args.k in
+    let g = c.args.plan.now.frame.facts.now in
+    let k = c.args.plan.now.frame.k in
     let f = c.args.cnf.now in
-    let ls = c.args.launches.now in
+    let ls = c.args.plan.now.launches.now in
     let xs = numbered 0 ls in
     let first = c.vars-first.result in
     let n = f.vars + k in
@@ -249,10 +249,10 @@ add_comes-requires-clause-few c =
 
 pub add_comes-requires-clause-room : goal.add_comes-requires-clause-room
 add_comes-requires-clause-room c =
-    let g = c.args.facts.now in
-    let k = c.args.k in
+    let g = c.args.plan.now.frame.facts.now in
+    let k = c.args.plan.now.frame.k in
     let f = c.args.cnf.now in
-    let ls = c.args.launches.now in
+    let ls = c.args.plan.now.launches.now in
     let xs = numbered 0 ls in
     let first = c.vars-first.result in
     let n = f.vars + k in
@@ -277,10 +277,10 @@ add_comes-requires-clause-room c =
 
 pub returns : goal.returns
 returns c =
-    let g = c.args.facts.now in
-    let k = c.args.k in
+    let g = c.args.plan.now.frame.facts.now in
+    let k = c.args.plan.now.frame.k in
     let f = c.args.cnf.now in
-    let ls = c.args.launches.now in
+    let ls = c.args.plan.now.launches.now in
     let xs = numbered 0 ls in
     let first = c.vars-first.result in
     let n = f.vars + k in

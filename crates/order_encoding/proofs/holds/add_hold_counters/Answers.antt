@@ -12,14 +12,14 @@ use Rattle.order_encoding.proofs.LiveExtended.{held_group}
 use Rattle.order_encoding.proofs.holds.add_hold_counters.Goals as goal
 
 pub loop-cycle-init : goal.loop-cycle-init
-loop-cycle-init c = none_yet (length c.args.facts.now.pool) (held_group (numbered c.args.first (all_holds c.args.table.now c.args.k))) c.args.cnf.now
+loop-cycle-init c = none_yet (length c.args.facts.now.pool) (held_group (numbered c.args.holds.now.first (all_holds c.args.holds.now.table.now c.args.holds.now.k))) c.args.cnf.now
 
 pub at_most-requires-clause-exist : goal.at_most-requires-clause-exist
 at_most-requires-clause-exist c =
     let g = c.args.facts.now in
-    let k = c.args.k in
-    let holds = all_holds c.args.table.now k in
-    let hs = numbered c.args.first holds in
+    let k = c.args.holds.now.k in
+    let holds = all_holds c.args.holds.now.table.now k in
+    let hs = numbered c.args.holds.now.first holds in
     let p = length g.pool in
     let group = held_group hs in
     let q = c.registers-most.result in
@@ -34,14 +34,14 @@ at_most-requires-clause-exist c =
     let sv : at_most_vars q (length lits) ≡ at_most_vars p (length lits) = ap (λ m. at_most_vars q m) long ∙ c.registers-most.ensures.vars ∙ ap (λ x. at_most_vars x n) pool ∙ ap (at_most_vars p) (sym long) in
     let ss : at_most_size q (length lits) ≡ at_most_size p (length lits) = ap (λ m. at_most_size q m) long ∙ c.registers-most.ensures.size ∙ ap (λ x. at_most_size x n) pool ∙ ap (at_most_size p) (sym long) in
     let sc : (old : ℕ) → at_most_clauses old q lits ≡ at_most_clauses old p lits = λ old. c.registers-most.ensures.clauses old lits long ∙ ap (λ x. at_most_clauses old x lits) pool in
-    next_exist p group q f h i lits c.loop-cycle.invariant are (c.args.first + length holds) c.requires.exist (λ m le. vars-over (λ (x : Hold). x.cycle == i) c.args.first m holds le)
+    next_exist p group q f h i lits c.loop-cycle.invariant are (c.args.holds.now.first + length holds) c.requires.exist (λ m le. vars-over (λ (x : Hold). x.cycle == i) c.args.holds.now.first m holds le)
 
 pub at_most-requires-clause-short : goal.at_most-requires-clause-short
 at_most-requires-clause-short c =
     let g = c.args.facts.now in
-    let k = c.args.k in
-    let holds = all_holds c.args.table.now k in
-    let hs = numbered c.args.first holds in
+    let k = c.args.holds.now.k in
+    let holds = all_holds c.args.holds.now.table.now k in
+    let hs = numbered c.args.holds.now.first holds in
     let p = length g.pool in
     let group = held_group hs in
     let q = c.registers-most.result in
@@ -56,7 +56,7 @@ at_most-requires-clause-short c =
     let sv : at_most_vars q (length lits) ≡ at_most_vars p (length lits) = ap (λ m. at_most_vars q m) long ∙ c.registers-most.ensures.vars ∙ ap (λ x. at_most_vars x n) pool ∙ ap (at_most_vars p) (sym long) in
     let ss : at_most_size q (length lits) ≡ at_most_size p (length lits) = ap (λ m. at_most_size q m) long ∙ c.registers-most.ensures.size ∙ ap (λ x. at_most_size x n) pool ∙ ap (at_most_size p) (sym long) in
     let sc : (old : ℕ) → at_most_clauses old q lits ≡ at_most_clauses old p lits = λ old. c.registers-most.ensures.clauses old lits long ∙ ap (λ x. at_most_clauses old x lits) pool in
-    let a = vars-short (λ (x : Hold). x.cycle == i) c.args.first holds in
+    let a = vars-short (λ (x : Hold). x.cycle == i) c.args.holds.now.first holds in
     let b = ap (λ (ls : List Lit). length ls) are in
     let d = c.requires.exist in
     let e = c.requires.vars in
@@ -65,9 +65,9 @@ at_most-requires-clause-short c =
 pub at_most-requires-clause-vars : goal.at_most-requires-clause-vars
 at_most-requires-clause-vars c =
     let g = c.args.facts.now in
-    let k = c.args.k in
-    let holds = all_holds c.args.table.now k in
-    let hs = numbered c.args.first holds in
+    let k = c.args.holds.now.k in
+    let holds = all_holds c.args.holds.now.table.now k in
+    let hs = numbered c.args.holds.now.first holds in
     let p = length g.pool in
     let group = held_group hs in
     let q = c.registers-most.result in
@@ -87,9 +87,9 @@ at_most-requires-clause-vars c =
 pub at_most-requires-clause-room : goal.at_most-requires-clause-room
 at_most-requires-clause-room c =
     let g = c.args.facts.now in
-    let k = c.args.k in
-    let holds = all_holds c.args.table.now k in
-    let hs = numbered c.args.first holds in
+    let k = c.args.holds.now.k in
+    let holds = all_holds c.args.holds.now.table.now k in
+    let hs = numbered c.args.holds.now.first holds in
     let p = length g.pool in
     let group = held_group hs in
     let q = c.registers-most.result in
@@ -109,9 +109,9 @@ at_most-requires-clause-room c =
 pub loop-cycle-preserved : goal.loop-cycle-preserved
 loop-cycle-preserved c =
     let g = c.args.facts.now in
-    let k = c.args.k in
-    let holds = all_holds c.args.table.now k in
-    let hs = numbered c.args.first holds in
+    let k = c.args.holds.now.k in
+    let holds = all_holds c.args.holds.now.table.now k in
+    let hs = numbered c.args.holds.now.first holds in
     let p = length g.pool in
     let group = held_group hs in
     let q = c.registers-most.result in
@@ -130,14 +130,14 @@ loop-cycle-preserved c =
 
 pub returns : goal.returns
 returns c =
-    let end : c.loop-cycle.cycle ≡ c.args.k = (let a = c.loop-cycle-test.false in let b = c.loop-cycle.auto.cycle-end in omega arith) in
-    c.loop-cycle.invariant ∙ ap (up_to (length c.args.facts.now.pool) (held_group (numbered c.args.first (all_holds c.args.table.now c.args.k))) c.args.cnf.now) end
+    let end : c.loop-cycle.cycle ≡ c.args.holds.now.k = (let a = c.loop-cycle-test.false in let b = c.loop-cycle.auto.cycle-end in omega arith) in
+    c.loop-cycle.invariant ∙ ap (up_to (length c.args.facts.now.pool) (held_group (numbered c.args.holds.now.first (all_holds c.args.holds.now.table.now c.args.holds.now.k))) c.args.cnf.now) end
 
 pub overflow_cast-len : goal.overflow_cast-len
 overflow_cast-len c =
-    let holds = all_holds c.args.table.now c.args.k in
+    let holds = all_holds c.args.holds.now.table.now c.args.holds.now.k in
     let i = c.loop-cycle.cycle in
-    let a = vars-short (λ (x : Hold). x.cycle == i) c.args.first holds in
+    let a = vars-short (λ (x : Hold). x.cycle == i) c.args.holds.now.first holds in
     let b = ap (λ (ls : List Lit). length ls) c.in_ok-lits.ensures in
     let n = c.len.ensures ∙ c.in_ok-lits.lits.ok.0 in
     let d = c.requires.exist in

@@ -6,4 +6,4 @@ use Rattle.order_encoding.proofs.LiveExtended.{held_group}
 use Rattle.order_encoding.proofs.holds.add_hold_counters.Given as goal
 
 abbrev pub invariant-loop-cycle : goal.invariant-loop-cycle
-invariant-loop-cycle l = l.cnf ≡ up_to (length l.facts.pool) (held_group (numbered l.first (all_holds l.table l.k))) l.initial.cnf l.cycle
+invariant-loop-cycle l = l.cnf ≡ up_to (length l.facts.pool) (held_group (numbered l.holds.first (all_holds l.holds.table.now l.holds.k))) l.initial.cnf l.cycle

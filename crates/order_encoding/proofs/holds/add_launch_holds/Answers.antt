@@ -18,95 +18,95 @@ use Rattle.order_encoding.proofs.holds.add_launch_holds.Goals as goal
 
 pub add_implied-requires-clause-lit : goal.add_implied-requires-clause-lit
 add_implied-requires-clause-lit c =
-    let g = c.args.facts.now in
-    let k = c.args.needs.now.cycles in
-    let needs = all_needs k (pooled_classes g (numbered 0 c.args.launches.now)) in
-    let ns = numbered c.args.needs.now.first needs in
-    let holds = all_holds c.args.table.now k in
+    let g = c.args.live.now.facts.now in
+    let k = c.args.live.now.needs.cycles in
+    let needs = all_needs k (pooled_classes g (numbered 0 c.args.live.now.launches.now)) in
+    let ns = numbered c.args.live.now.needs.first needs in
+    let holds = all_holds c.args.live.now.table.now k in
     let hs = numbered c.args.first holds in
-    let l = c.args.launch in
+    let l = c.args.made.launch in
     let own = vars_of (is_hold_at l.slot l.cycle l.cycle) hs in
     lits_exist (is_hold_at l.slot l.cycle l.cycle) c.args.first c.args.cnf.now.vars holds (option_to_list c.hold_var.result) c.hold_var.ensures c.requires.exist
 
 pub loop-step-init : goal.loop-step-init
 loop-step-init c =
-    let g = c.args.facts.now in
-    let k = c.args.needs.now.cycles in
-    let needs = all_needs k (pooled_classes g (numbered 0 c.args.launches.now)) in
-    let ns = numbered c.args.needs.now.first needs in
-    let holds = all_holds c.args.table.now k in
+    let g = c.args.live.now.facts.now in
+    let k = c.args.live.now.needs.cycles in
+    let needs = all_needs k (pooled_classes g (numbered 0 c.args.live.now.launches.now)) in
+    let ns = numbered c.args.live.now.needs.first needs in
+    let holds = all_holds c.args.live.now.table.now k in
     let hs = numbered c.args.first holds in
-    let l = c.args.launch in
+    let l = c.args.made.launch in
     let own = vars_of (is_hold_at l.slot l.cycle l.cycle) hs in
-    record { is = first_hold g ns hs l own c.args.var c.args.cnf.now c.add_implied.new.cnf (option_to_list c.hold_var.result) c.hold_var.ensures c.in_ok-add_implied.ensures; within = omega arith }
+    record { is = first_hold g ns hs l own c.args.made.var c.args.cnf.now c.add_implied.new.cnf (option_to_list c.hold_var.result) c.hold_var.ensures c.in_ok-add_implied.ensures; within = omega arith }
 
 pub add-requires-clause-exist : goal.add-requires-clause-exist
 add-requires-clause-exist c =
-    let g = c.args.facts.now in
-    let k = c.args.needs.now.cycles in
-    let needs = all_needs k (pooled_classes g (numbered 0 c.args.launches.now)) in
-    let ns = numbered c.args.needs.now.first needs in
-    let holds = all_holds c.args.table.now k in
+    let g = c.args.live.now.facts.now in
+    let k = c.args.live.now.needs.cycles in
+    let needs = all_needs k (pooled_classes g (numbered 0 c.args.live.now.launches.now)) in
+    let ns = numbered c.args.live.now.needs.first needs in
+    let holds = all_holds c.args.live.now.table.now k in
     let hs = numbered c.args.first holds in
-    let l = c.args.launch in
+    let l = c.args.made.launch in
     let own = vars_of (is_hold_at l.slot l.cycle l.cycle) hs in
     let step = c.loop-step.step in
     let mid = c.loop-step.cnf in
-    let same = vars-with c.args.cnf.now mid (of_thing c.args.var (up_to_cycle g ns hs l own c.args.var (step - 1))) c.loop-step.invariant.is in
+    let same = vars-with c.args.cnf.now mid (of_thing c.args.made.var (up_to_cycle g ns hs l own c.args.made.var (step - 1))) c.loop-step.invariant.is in
     let below = c.requires.launches in
     let next = c.requires.next in
     let exist = c.requires.exist in
-    while_exist g ns hs l own c.args.var step c.loop-step.auto.step c.args.cnf.now mid c.loop-step.invariant.is c.deref.result.now (option_to_list c.need_var-need.result) (option_to_list c.hold_var-hold.result) (c.deref.ensures.value ∙ c.in_ok-clause.ensures)
+    while_exist g ns hs l own c.args.made.var step c.loop-step.auto.step c.args.cnf.now mid c.loop-step.invariant.is c.deref.result.now (option_to_list c.need_var-need.result) (option_to_list c.hold_var-hold.result) (c.deref.ensures.value ∙ c.in_ok-clause.ensures)
     (c.need_var-need.ensures ∙ ap (λ cl. vars_of (is_need_at cl (l.cycle + step)) ns) (c.class_at.ensures ∙ ap (λ (x : LaunchGraph). class_at x l.row) c.graph.ensures)) c.hold_var-hold.ensures
     (record { above = c.requires.var; within = omega arith })
-    (negated-over (is_need_at (class_at g l.row) (l.cycle + step)) c.args.needs.now.first mid.vars needs (omega arith))
+    (negated-over (is_need_at (class_at g l.row) (l.cycle + step)) c.args.live.now.needs.first mid.vars needs (omega arith))
     (vars-over (is_hold_at l.slot l.cycle (l.cycle + step)) c.args.first mid.vars holds (omega arith))
 
 pub add-requires-clause-room : goal.add-requires-clause-room
 add-requires-clause-room c =
-    let g = c.args.facts.now in
-    let k = c.args.needs.now.cycles in
-    let needs = all_needs k (pooled_classes g (numbered 0 c.args.launches.now)) in
-    let ns = numbered c.args.needs.now.first needs in
-    let holds = all_holds c.args.table.now k in
+    let g = c.args.live.now.facts.now in
+    let k = c.args.live.now.needs.cycles in
+    let needs = all_needs k (pooled_classes g (numbered 0 c.args.live.now.launches.now)) in
+    let ns = numbered c.args.live.now.needs.first needs in
+    let holds = all_holds c.args.live.now.table.now k in
     let hs = numbered c.args.first holds in
-    let l = c.args.launch in
+    let l = c.args.made.launch in
     let own = vars_of (is_hold_at l.slot l.cycle l.cycle) hs in
     let takes : takes_pool g l ≡ true = sym (c.takes_pool.ensures ∙ ap (λ (i : Option InstrKind). is_pool l.to && option_map_or gives_word i false) c.instr_at.ensures) ∙ c.if-not-takes_pool.false in
     let step = c.loop-step.step in
     let lt : step < k - l.cycle = (let a = c.loop-step-test.true in let b = c.saturating_sub-step-end.ensures in omega arith) in
-    while_room g ns hs l own c.args.var step c.loop-step.auto.step c.args.cnf.now c.loop-step.cnf c.loop-step.invariant.is k takes refl lt c.requires.room
+    while_room g ns hs l own c.args.made.var step c.loop-step.auto.step c.args.cnf.now c.loop-step.cnf c.loop-step.invariant.is k takes refl lt c.requires.room
 
 pub loop-step-preserved : goal.loop-step-preserved
 loop-step-preserved c =
-    let g = c.args.facts.now in
-    let k = c.args.needs.now.cycles in
-    let needs = all_needs k (pooled_classes g (numbered 0 c.args.launches.now)) in
-    let ns = numbered c.args.needs.now.first needs in
-    let holds = all_holds c.args.table.now k in
+    let g = c.args.live.now.facts.now in
+    let k = c.args.live.now.needs.cycles in
+    let needs = all_needs k (pooled_classes g (numbered 0 c.args.live.now.launches.now)) in
+    let ns = numbered c.args.live.now.needs.first needs in
+    let holds = all_holds c.args.live.now.table.now k in
     let hs = numbered c.args.first holds in
-    let l = c.args.launch in
+    let l = c.args.made.launch in
     let own = vars_of (is_hold_at l.slot l.cycle l.cycle) hs in
     let step = c.loop-step.step in
     let lt : step < k - l.cycle = (let a = c.loop-step-test.true in let b = c.saturating_sub-step-end.ensures in omega arith) in
     let from = c.loop-step.auto.step in
     record {
-      is = while_step g ns hs l own c.args.var step c.loop-step.auto.step c.args.cnf.now c.loop-step.cnf c.loop-step.invariant.is c.add.new.self c.deref.result.now (option_to_list c.need_var-need.result) (option_to_list c.hold_var-hold.result) (c.deref.ensures.value ∙ c.in_ok-clause.ensures)
+      is = while_step g ns hs l own c.args.made.var step c.loop-step.auto.step c.args.cnf.now c.loop-step.cnf c.loop-step.invariant.is c.add.new.self c.deref.result.now (option_to_list c.need_var-need.result) (option_to_list c.hold_var-hold.result) (c.deref.ensures.value ∙ c.in_ok-clause.ensures)
           (c.need_var-need.ensures ∙ ap (λ cl. vars_of (is_need_at cl (l.cycle + step)) ns) (c.class_at.ensures ∙ ap (λ (x : LaunchGraph). class_at x l.row) c.graph.ensures)) c.hold_var-hold.ensures c.in_ok-add.ensures.ok;
       within = omega (arith, lt, from);
     }
 
 pub returns : goal.returns
 returns c =
-    let g = c.args.facts.now in
-    let k = c.args.needs.now.cycles in
-    let needs = all_needs k (pooled_classes g (numbered 0 c.args.launches.now)) in
-    let ns = numbered c.args.needs.now.first needs in
-    let holds = all_holds c.args.table.now k in
+    let g = c.args.live.now.facts.now in
+    let k = c.args.live.now.needs.cycles in
+    let needs = all_needs k (pooled_classes g (numbered 0 c.args.live.now.launches.now)) in
+    let ns = numbered c.args.live.now.needs.first needs in
+    let holds = all_holds c.args.live.now.table.now k in
     let hs = numbered c.args.first holds in
-    let l = c.args.launch in
+    let l = c.args.made.launch in
     let own = vars_of (is_hold_at l.slot l.cycle l.cycle) hs in
     let takes : takes_pool g l ≡ true = sym (c.takes_pool.ensures ∙ ap (λ (i : Option InstrKind). is_pool l.to && option_map_or gives_word i false) c.instr_at.ensures) ∙ c.if-not-takes_pool.false in
     let step = c.loop-step.step in
     let end : step - 1 ≡ k - (l.cycle + 1) = (let a = c.loop-step-test.false in let b = c.loop-step.auto.step in let d = c.loop-step.invariant.within in let e = c.saturating_sub-step-end.ensures in omega (arith, a, b, d, e)) in
-    c.loop-step.invariant.is ∙ all_while g k ns hs l c.args.var step c.args.cnf.now takes end
+    c.loop-step.invariant.is ∙ all_while g k ns hs l c.args.made.var step c.args.cnf.now takes end

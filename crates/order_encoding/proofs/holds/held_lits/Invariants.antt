@@ -6,4 +6,4 @@ use Rattle.order_encoding.specs.OrderSteps.{slot_lits}
 use Rattle.order_encoding.proofs.holds.held_lits.Given as goal
 
 abbrev pub invariant-loop-slot : goal.invariant-loop-slot
-invariant-loop-slot l = l.lits.items ≡ flat_map (slot_lits l.cycle (numbered l.first (all_holds l.table l.k))) (range_with_len 0 l.slot)
+invariant-loop-slot l = l.lits.items ≡ flat_map (slot_lits l.cycle (numbered l.holds.first (all_holds l.holds.table.now l.holds.k))) (range_with_len 0 l.slot)

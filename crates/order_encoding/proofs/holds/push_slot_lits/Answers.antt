@@ -9,7 +9,7 @@ use Rattle.order_encoding.proofs.holds.push_slot_lits.Goals as goal
 
 pub loop-start-preserved : goal.loop-start-preserved
 loop-start-preserved c =
-    let hs = numbered c.args.first (all_holds c.args.table.now c.args.k) in
+    let hs = numbered c.args.holds.now.first (all_holds c.args.holds.now.table.now c.args.holds.now.k) in
     let one : ℕ → List Lit = λ start. vars_of (is_hold_at c.args.slot start c.args.cycle) hs in
     let n = c.loop-start.start in
     let old = c.args.lits.now.items in
@@ -18,7 +18,7 @@ loop-start-preserved c =
 
 pub returns : goal.returns
 returns c =
-    let hs = numbered c.args.first (all_holds c.args.table.now c.args.k) in
+    let hs = numbered c.args.holds.now.first (all_holds c.args.holds.now.table.now c.args.holds.now.k) in
     let one : ℕ → List Lit = λ start. vars_of (is_hold_at c.args.slot start c.args.cycle) hs in
     let end : c.loop-start.start ≡ c.args.cycle + 1 = (let a = c.loop-start-test.false in let b = c.loop-start.auto.start-end in omega arith) in
     c.loop-start.invariant ∙ ap (λ n. c.args.lits.now.items ++ flat_map one (range_with_len 0 n)) end

@@ -6,4 +6,4 @@ use Rattle.order_encoding.specs.LiveFamilies.{is_hold_at}
 use Rattle.order_encoding.proofs.holds.push_slot_lits.Given as goal
 
 abbrev pub invariant-loop-start : goal.invariant-loop-start
-invariant-loop-start l = l.lits.items ≡ l.initial.lits.items ++ flat_map (λ start. vars_of (is_hold_at l.slot start l.cycle) (numbered l.first (all_holds l.table l.k))) (range_with_len 0 l.start)
+invariant-loop-start l = l.lits.items ≡ l.initial.lits.items ++ flat_map (λ start. vars_of (is_hold_at l.slot start l.cycle) (numbered l.holds.first (all_holds l.holds.table.now l.holds.k))) (range_with_len 0 l.start)

@@ -12,11 +12,11 @@ use Rattle.order_encoding.proofs.live_counts.need_count.Goals as goal
 
 pub loop-row-preserved : goal.loop-row-preserved
 loop-row-preserved c =
-    let g = c.args.facts.now in
+    let g = c.args.pooled.now.frame.facts.now in
     let n = c.loop-row.row in
-    let a = allocation_in c.args.scope.now in
-    let A : ℕ → ℕ = λ row. row_count g c.args.table.now c.args.k c.args.scope.now row in
-    let P : ℕ → ℕ = λ row. count_by (is_pooled_operand_in g c.args.table.now c.args.k c.args.scope.now) (operands_at g row) in
+    let a = allocation_in c.args.pooled.now.frame.scope.now in
+    let A : ℕ → ℕ = λ row. row_count g c.args.pooled.now.frame.table.now c.args.pooled.now.frame.k c.args.pooled.now.frame.scope.now row in
+    let P : ℕ → ℕ = λ row. count_by (is_pooled_operand_in g c.args.pooled.now.frame.table.now c.args.pooled.now.frame.k c.args.pooled.now.frame.scope.now) (operands_at g row) in
     let B : ℕ → ℕ = λ row. sum_by (λ to. P row) (row_destinations g a row) in
     let small : (old x : ℕ) → old ≤ n * 25600 → x ≤ 25600 → old + x ≤ (n + 1) * 25600 = λ old x p q. omega arith in
     let swap : (x y : ℕ) → x * y ≡ y * x = λ x y. omega arith in

@@ -10,9 +10,9 @@ use Rattle.order_encoding.proofs.live_counts.target_count.Goals as goal
 
 pub loop-place-preserved : goal.loop-place-preserved
 loop-place-preserved c =
-    let g = c.args.facts.now in
+    let g = c.args.pooled.now.frame.facts.now in
     let i = c.loop-place.place in
-    let t : SetClass → Bool = λ s. is_made_target g s && is_pooled_in g c.args.table.now c.args.k c.args.scope.now s.class in
+    let t : SetClass → Bool = λ s. is_made_target g s && is_pooled_in g c.args.pooled.now.frame.table.now c.args.pooled.now.frame.k c.args.pooled.now.frame.scope.now s.class in
     let size = c.set_count-place-end.ensures in
     let inside : i < length g.sets = (let lt = c.loop-place-test.true in omega arith) in
     record {
@@ -22,8 +22,8 @@ loop-place-preserved c =
 
 pub returns-clause-value : goal.returns-clause-value
 returns-clause-value c =
-    let g = c.args.facts.now in
-    let t : SetClass → Bool = λ s. is_made_target g s && is_pooled_in g c.args.table.now c.args.k c.args.scope.now s.class in
+    let g = c.args.pooled.now.frame.facts.now in
+    let t : SetClass → Bool = λ s. is_made_target g s && is_pooled_in g c.args.pooled.now.frame.table.now c.args.pooled.now.frame.k c.args.pooled.now.frame.scope.now s.class in
     let size = c.set_count-place-end.ensures in
     let past : length g.sets ≤ c.loop-place.place = (let end = c.loop-place-test.false in omega arith) in
     c.loop-place.invariant.is ∙ ap (λ ss. count_by t ss) (take_all c.loop-place.place g.sets past)

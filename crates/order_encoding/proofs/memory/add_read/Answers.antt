@@ -5,4 +5,4 @@ use Rattle.order_encoding.proofs.AddSteps.{lits_exist}
 use Rattle.order_encoding.proofs.memory.add_read.Goals as goal
 
 pub add_implied-requires-clause-lit : goal.add_implied-requires-clause-lit
-add_implied-requires-clause-lit c = lits_exist (is_held_at _ c.args.launch.cycle) c.args.held.now.first c.args.cnf.now.vars (all_held c.args.facts.now c.args.held.now.cycles) (option_to_list c.held_var.result) c.held_var.ensures c.requires.exist
+add_implied-requires-clause-lit c = lits_exist (is_held_at _ c.args.made.launch.cycle) c.args.vars.now.held.first c.args.cnf.now.vars (all_held c.args.vars.now.facts.now c.args.vars.now.held.cycles) (option_to_list c.held_var.result) c.held_var.ensures c.requires.exist

@@ -12,17 +12,17 @@ use Rattle.order_encoding.proofs.memory.add_store_counters.Goals as goal
 
 pub at_most_one-requires-clause-exist : goal.at_most_one-requires-clause-exist
 at_most_one-requires-clause-exist c =
-    let ls = c.args.launches.now in
-    let group = λ (t : ℕ). vars_of (stores_at c.args.facts.now t) (numbered 0 ls) in
-    let is = c.deref.ensures.value ∙ put_all c.new-lits.result.items c.push_stores.new.lits.items _ (group c.loop-cycle.cycle) c.new-lits.ensures.items c.in_ok-push_stores.ensures (stores_are c.args.facts.now ls c.args.found.now c.loop-cycle.cycle c.requires.found) in
-    next_exist group c.args.cnf.now c.loop-cycle.cnf c.loop-cycle.cycle c.deref.result.now c.loop-cycle.invariant is (length ls) c.requires.exist (λ m le. vars-over (stores_at c.args.facts.now c.loop-cycle.cycle) 0 m ls (omega arith))
+    let ls = c.args.vars.now.launches.now in
+    let group = λ (t : ℕ). vars_of (stores_at c.args.vars.now.facts.now t) (numbered 0 ls) in
+    let is = c.deref.ensures.value ∙ put_all c.new-lits.result.items c.push_stores.new.lits.items _ (group c.loop-cycle.cycle) c.new-lits.ensures.items c.in_ok-push_stores.ensures (stores_are c.args.vars.now.facts.now ls c.args.vars.now.found.now c.loop-cycle.cycle c.requires.found) in
+    next_exist group c.args.cnf.now c.loop-cycle.cnf c.loop-cycle.cycle c.deref.result.now c.loop-cycle.invariant is (length ls) c.requires.exist (λ m le. vars-over (stores_at c.args.vars.now.facts.now c.loop-cycle.cycle) 0 m ls (omega arith))
 
 pub at_most_one-requires-clause-short : goal.at_most_one-requires-clause-short
 at_most_one-requires-clause-short c =
-    let ls = c.args.launches.now in
-    let group = λ (t : ℕ). vars_of (stores_at c.args.facts.now t) (numbered 0 ls) in
-    let is = c.deref.ensures.value ∙ put_all c.new-lits.result.items c.push_stores.new.lits.items _ (group c.loop-cycle.cycle) c.new-lits.ensures.items c.in_ok-push_stores.ensures (stores_are c.args.facts.now ls c.args.found.now c.loop-cycle.cycle c.requires.found) in
-    let a = vars-short (stores_at c.args.facts.now c.loop-cycle.cycle) 0 ls in
+    let ls = c.args.vars.now.launches.now in
+    let group = λ (t : ℕ). vars_of (stores_at c.args.vars.now.facts.now t) (numbered 0 ls) in
+    let is = c.deref.ensures.value ∙ put_all c.new-lits.result.items c.push_stores.new.lits.items _ (group c.loop-cycle.cycle) c.new-lits.ensures.items c.in_ok-push_stores.ensures (stores_are c.args.vars.now.facts.now ls c.args.vars.now.found.now c.loop-cycle.cycle c.requires.found) in
+    let a = vars-short (stores_at c.args.vars.now.facts.now c.loop-cycle.cycle) 0 ls in
     let b = ap (λ (ls : List Lit). length ls) is in
     let d = c.requires.exist in
     let e = c.requires.vars in
@@ -30,21 +30,21 @@ at_most_one-requires-clause-short c =
 
 pub at_most_one-requires-clause-vars : goal.at_most_one-requires-clause-vars
 at_most_one-requires-clause-vars c =
-    let ls = c.args.launches.now in
-    let group = λ (t : ℕ). vars_of (stores_at c.args.facts.now t) (numbered 0 ls) in
-    let is = c.deref.ensures.value ∙ put_all c.new-lits.result.items c.push_stores.new.lits.items _ (group c.loop-cycle.cycle) c.new-lits.ensures.items c.in_ok-push_stores.ensures (stores_are c.args.facts.now ls c.args.found.now c.loop-cycle.cycle c.requires.found) in
+    let ls = c.args.vars.now.launches.now in
+    let group = λ (t : ℕ). vars_of (stores_at c.args.vars.now.facts.now t) (numbered 0 ls) in
+    let is = c.deref.ensures.value ∙ put_all c.new-lits.result.items c.push_stores.new.lits.items _ (group c.loop-cycle.cycle) c.new-lits.ensures.items c.in_ok-push_stores.ensures (stores_are c.args.vars.now.facts.now ls c.args.vars.now.found.now c.loop-cycle.cycle c.requires.found) in
     next_vars group c.args.cnf.now c.loop-cycle.cnf c.loop-cycle.cycle c.deref.result.now c.loop-cycle.invariant is c.args.k c.loop-cycle-test.true c.requires.vars
 
 pub at_most_one-requires-clause-room : goal.at_most_one-requires-clause-room
 at_most_one-requires-clause-room c =
-    let ls = c.args.launches.now in
-    let group = λ (t : ℕ). vars_of (stores_at c.args.facts.now t) (numbered 0 ls) in
-    let is = c.deref.ensures.value ∙ put_all c.new-lits.result.items c.push_stores.new.lits.items _ (group c.loop-cycle.cycle) c.new-lits.ensures.items c.in_ok-push_stores.ensures (stores_are c.args.facts.now ls c.args.found.now c.loop-cycle.cycle c.requires.found) in
+    let ls = c.args.vars.now.launches.now in
+    let group = λ (t : ℕ). vars_of (stores_at c.args.vars.now.facts.now t) (numbered 0 ls) in
+    let is = c.deref.ensures.value ∙ put_all c.new-lits.result.items c.push_stores.new.lits.items _ (group c.loop-cycle.cycle) c.new-lits.ensures.items c.in_ok-push_stores.ensures (stores_are c.args.vars.now.facts.now ls c.args.vars.now.found.now c.loop-cycle.cycle c.requires.found) in
     next_room group c.args.cnf.now c.loop-cycle.cnf c.loop-cycle.cycle c.deref.result.now c.loop-cycle.invariant is c.counters_count.ensures.size c.args.k c.loop-cycle-test.true c.requires.room
 
 pub loop-cycle-preserved : goal.loop-cycle-preserved
 loop-cycle-preserved c =
-    let ls = c.args.launches.now in
-    let group = λ (t : ℕ). vars_of (stores_at c.args.facts.now t) (numbered 0 ls) in
-    let is = c.deref.ensures.value ∙ put_all c.new-lits.result.items c.push_stores.new.lits.items _ (group c.loop-cycle.cycle) c.new-lits.ensures.items c.in_ok-push_stores.ensures (stores_are c.args.facts.now ls c.args.found.now c.loop-cycle.cycle c.requires.found) in
+    let ls = c.args.vars.now.launches.now in
+    let group = λ (t : ℕ). vars_of (stores_at c.args.vars.now.facts.now t) (numbered 0 ls) in
+    let is = c.deref.ensures.value ∙ put_all c.new-lits.result.items c.push_stores.new.lits.items _ (group c.loop-cycle.cycle) c.new-lits.ensures.items c.in_ok-push_stores.ensures (stores_are c.args.vars.now.facts.now ls c.args.vars.now.found.now c.loop-cycle.cycle c.requires.found) in
     c.in_ok-at_most_one.ensures.exact ∙ one_more group c.args.cnf.now c.loop-cycle.cnf c.loop-cycle.cycle c.deref.result.now c.loop-cycle.invariant is

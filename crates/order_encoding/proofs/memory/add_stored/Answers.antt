@@ -9,11 +9,11 @@ use Rattle.order_encoding.proofs.memory.add_stored.Goals as goal
 
 pub add-requires-clause-exist : goal.add-requires-clause-exist
 add-requires-clause-exist c =
-    let g = c.args.facts.now in
+    let g = c.args.vars.now.facts.now in
     let t = c.args.cycle in
-    let ls = c.args.launches.now in
-    let var = c.args.stores + t + 1 in
-    let is = put_together c.new-clause.result.items c.push.new.self.items c.push_stores.new.lits.items _ (vars_of (stores_at g t) (numbered 0 ls)) (negative var) c.new-clause.ensures.items c.in_ok-push.ensures.items c.in_ok-push_stores.ensures (stores_are g ls c.args.found.now t c.requires.found) in
+    let ls = c.args.vars.now.launches.now in
+    let var = c.args.vars.now.stores + t + 1 in
+    let is = put_together c.new-clause.result.items c.push.new.self.items c.push_stores.new.lits.items _ (vars_of (stores_at g t) (numbered 0 ls)) (negative var) c.new-clause.ensures.items c.in_ok-push.ensures.items c.in_ok-push_stores.ensures (stores_are g ls c.args.vars.now.found.now t c.requires.found) in
     let a = c.requires.launches in
     let b = c.requires.cycles in
     let lt = c.requires.cycle in
@@ -21,9 +21,9 @@ add-requires-clause-exist c =
 
 pub returns : goal.returns
 returns c =
-    let g = c.args.facts.now in
+    let g = c.args.vars.now.facts.now in
     let t = c.args.cycle in
-    let ls = c.args.launches.now in
-    let var = c.args.stores + t + 1 in
-    let is = put_together c.new-clause.result.items c.push.new.self.items c.push_stores.new.lits.items _ (vars_of (stores_at g t) (numbered 0 ls)) (negative var) c.new-clause.ensures.items c.in_ok-push.ensures.items c.in_ok-push_stores.ensures (stores_are g ls c.args.found.now t c.requires.found) in
-    then_is c.add.result c.args.cnf.now c.add.new.self (c.deref.result.now ∷ []) (implied (numbered c.args.stores (range_with_len 0 c.args.held.now.cycles)) (store_clause g (numbered 0 ls) t)) (stored_is g (numbered 0 ls) c.args.stores c.args.held.now.cycles t c.deref.result.now c.requires.cycle (c.deref.ensures.value ∙ is)) c.add.ensures.ok
+    let ls = c.args.vars.now.launches.now in
+    let var = c.args.vars.now.stores + t + 1 in
+    let is = put_together c.new-clause.result.items c.push.new.self.items c.push_stores.new.lits.items _ (vars_of (stores_at g t) (numbered 0 ls)) (negative var) c.new-clause.ensures.items c.in_ok-push.ensures.items c.in_ok-push_stores.ensures (stores_are g ls c.args.vars.now.found.now t c.requires.found) in
+    then_is c.add.result c.args.cnf.now c.add.new.self (c.deref.result.now ∷ []) (implied (numbered c.args.vars.now.stores (range_with_len 0 c.args.vars.now.held.cycles)) (store_clause g (numbered 0 ls) t)) (stored_is g (numbered 0 ls) c.args.vars.now.stores c.args.vars.now.held.cycles t c.deref.result.now c.requires.cycle (c.deref.ensures.value ∙ is)) c.add.ensures.ok

@@ -7,4 +7,4 @@ use Rattle.order_encoding.specs.OrderFamilies.{uses_held, leaves}
 use Rattle.order_encoding.proofs.memory.add_uses.Given as goal
 
 abbrev pub invariant-loop-index : goal.invariant-loop-index
-invariant-loop-index l = l.cnf ≡ with_clauses l.initial.cnf (implied (numbered 0 (take l.index l.launches)) (λ x. uses_held l.facts (numbered l.held.first (all_held l.facts l.held.cycles)) x ++ leaves l.facts (numbered l.held.first (all_held l.facts l.held.cycles)) (numbered l.stores (range_with_len 0 l.held.cycles)) x))
+invariant-loop-index l = l.cnf ≡ with_clauses l.initial.cnf (implied (numbered 0 (take l.index l.vars.launches.now)) (λ x. uses_held l.vars.facts.now (numbered l.vars.held.first (all_held l.vars.facts.now l.vars.held.cycles)) x ++ leaves l.vars.facts.now (numbered l.vars.held.first (all_held l.vars.facts.now l.vars.held.cycles)) (numbered l.vars.stores (range_with_len 0 l.vars.held.cycles)) x))

@@ -14,10 +14,10 @@ use Rattle.order_encoding.proofs.memory.extend_by_memory.Goals as goal
 
 pub add_entry-requires-clause-room : goal.add_entry-requires-clause-room
 add_entry-requires-clause-room c =
-    let g = c.args.facts.now in
-    let k = c.args.k in
+    let g = c.args.plan.now.frame.facts.now in
+    let k = c.args.plan.now.frame.k in
     let f = c.args.cnf.now in
-    let xs = numbered 0 c.args.launches.now in
+    let xs = numbered 0 c.args.plan.now.launches.now in
     let held = c.in_ok-held.held in
     let j = held.cycles in
     let b = c.add_memory_vars-before_stores.result in
@@ -40,10 +40,10 @@ add_entry-requires-clause-room c =
 
 pub add_uses-requires-clause-room : goal.add_uses-requires-clause-room
 add_uses-requires-clause-room c =
-    let g = c.args.facts.now in
-    let k = c.args.k in
+    let g = c.args.plan.now.frame.facts.now in
+    let k = c.args.plan.now.frame.k in
     let f = c.args.cnf.now in
-    let xs = numbered 0 c.args.launches.now in
+    let xs = numbered 0 c.args.plan.now.launches.now in
     let held = c.in_ok-held.held in
     let j = held.cycles in
     let b = c.add_memory_vars-before_stores.result in
@@ -68,10 +68,10 @@ add_uses-requires-clause-room c =
 
 pub add_kept-requires-clause-room : goal.add_kept-requires-clause-room
 add_kept-requires-clause-room c =
-    let g = c.args.facts.now in
-    let k = c.args.k in
+    let g = c.args.plan.now.frame.facts.now in
+    let k = c.args.plan.now.frame.k in
     let f = c.args.cnf.now in
-    let xs = numbered 0 c.args.launches.now in
+    let xs = numbered 0 c.args.plan.now.launches.now in
     let held = c.in_ok-held.held in
     let j = held.cycles in
     let b = c.add_memory_vars-before_stores.result in
@@ -98,10 +98,10 @@ add_kept-requires-clause-room c =
 
 pub add_held_counters-requires-clause-vars : goal.add_held_counters-requires-clause-vars
 add_held_counters-requires-clause-vars c =
-    let g = c.args.facts.now in
-    let k = c.args.k in
+    let g = c.args.plan.now.frame.facts.now in
+    let k = c.args.plan.now.frame.k in
     let f = c.args.cnf.now in
-    let xs = numbered 0 c.args.launches.now in
+    let xs = numbered 0 c.args.plan.now.launches.now in
     let held = c.in_ok-held.held in
     let j = held.cycles in
     let b = c.add_memory_vars-before_stores.result in
@@ -131,10 +131,10 @@ add_held_counters-requires-clause-vars c =
 
 pub add_held_counters-requires-clause-room : goal.add_held_counters-requires-clause-room
 add_held_counters-requires-clause-room c =
-    let g = c.args.facts.now in
-    let k = c.args.k in
+    let g = c.args.plan.now.frame.facts.now in
+    let k = c.args.plan.now.frame.k in
     let f = c.args.cnf.now in
-    let xs = numbered 0 c.args.launches.now in
+    let xs = numbered 0 c.args.plan.now.launches.now in
     let held = c.in_ok-held.held in
     let j = held.cycles in
     let b = c.add_memory_vars-before_stores.result in
@@ -163,10 +163,10 @@ add_held_counters-requires-clause-room c =
 
 pub add_store_counters-requires-clause-vars : goal.add_store_counters-requires-clause-vars
 add_store_counters-requires-clause-vars c =
-    let g = c.args.facts.now in
-    let k = c.args.k in
+    let g = c.args.plan.now.frame.facts.now in
+    let k = c.args.plan.now.frame.k in
     let f = c.args.cnf.now in
-    let xs = numbered 0 c.args.launches.now in
+    let xs = numbered 0 c.args.plan.now.launches.now in
     let held = c.in_ok-held.held in
     let j = held.cycles in
     let b = c.add_memory_vars-before_stores.result in
@@ -198,10 +198,10 @@ add_store_counters-requires-clause-vars c =
 
 pub add_store_counters-requires-clause-room : goal.add_store_counters-requires-clause-room
 add_store_counters-requires-clause-room c =
-    let g = c.args.facts.now in
-    let k = c.args.k in
+    let g = c.args.plan.now.frame.facts.now in
+    let k = c.args.plan.now.frame.k in
     let f = c.args.cnf.now in
-    let xs = numbered 0 c.args.launches.now in
+    let xs = numbered 0 c.args.plan.now.launches.now in
     let held = c.in_ok-held.held in
     let j = held.cycles in
     let b = c.add_memory_vars-before_stores.result in
@@ -232,10 +232,10 @@ add_store_counters-requires-clause-room c =
 
 pub add_last-requires-clause-few : goal.add_last-requires-clause-few
 add_last-requires-clause-few c =
-    let g = c.args.facts.now in
-    let k = c.args.k in
+    let g = c.args.plan.now.frame.facts.now in
+    let k = c.args.plan.now.frame.k in
     let f = c.args.cnf.now in
-    let xs = numbered 0 c.args.launches.now in
+    let xs = numbered 0 c.args.plan.now.launches.now in
     let held = c.in_ok-held.held in
     let j = held.cycles in
     let b = c.add_memory_vars-before_stores.result in
@@ -271,10 +271,10 @@ add_last-requires-clause-few c =
 
 pub add_last-requires-clause-room : goal.add_last-requires-clause-room
 add_last-requires-clause-room c =
-    let g = c.args.facts.now in
-    let k = c.args.k in
+    let g = c.args.plan.now.frame.facts.now in
+    let k = c.args.plan.now.frame.k in
     let f = c.args.cnf.now in
-    let xs = numbered 0 c.args.launches.now in
+    let xs = numbered 0 c.args.plan.now.launches.now in
     let held = c.in_ok-held.held in
     let j = held.cycles in
     let b = c.add_memory_vars-before_stores.result in
@@ -308,10 +308,10 @@ add_last-requires-clause-room c =
 
 pub returns : goal.returns
 returns c =
-    let g = c.args.facts.now in
-    let k = c.args.k in
+    let g = c.args.plan.now.frame.facts.now in
+    let k = c.args.plan.now.frame.k in
     let f = c.args.cnf.now in
-    let xs = numbered 0 c.args.launches.now in
+    let xs = numbered 0 c.args.plan.now.launches.now in
     let held = c.in_ok-held.held in
     let j = held.cycles in
     let b = c.add_memory_vars-before_stores.result in

@@ -9,6 +9,6 @@ use Rattle.order_encoding.proofs.needs.add_earlier.Given as goal
 
 abbrev pub invariant-loop-class : goal.invariant-loop-class
 invariant-loop-class l = record {
-  before : l.before ≡ l.needs.first + length (flat_map (class_needs l.needs.cycles) (take l._class-index l.needs.classes.items));
-  cnf : l.cnf ≡ with_clauses l.initial.cnf (implied (numbered l.needs.first (flat_map (class_needs l.needs.cycles) (take l._class-index l.needs.classes.items))) (was_needed (numbered l.needs.first (all_needs l.needs.cycles (pooled_classes l._facts (numbered 0 l._launches))))));
+  before : l.before ≡ l.live.needs.first + length (flat_map (class_needs l.live.needs.cycles) (take l._class-index l.live.needs.classes.items));
+  cnf : l.cnf ≡ with_clauses l.initial.cnf (implied (numbered l.live.needs.first (flat_map (class_needs l.live.needs.cycles) (take l._class-index l.live.needs.classes.items))) (was_needed (numbered l.live.needs.first (all_needs l.live.needs.cycles (pooled_classes l.live.facts.now (numbered 0 l.live.launches.now))))));
 }

@@ -7,4 +7,4 @@ use Rattle.order_encoding.specs.LiveFamilies.{needs_of}
 use Rattle.order_encoding.proofs.needs.add_launch_needs.Given as goal
 
 abbrev pub invariant-loop-at : goal.invariant-loop-at
-invariant-loop-at l = l.cnf ≡ with_clauses l.initial.cnf (of_thing l.var (needs_of l.facts (numbered 0 l.launches) (numbered l.needs.first (all_needs l.needs.cycles (pooled_classes l.facts (numbered 0 l.launches)))) l.launch.cycle (take l.at (operands_at l.facts l.launch.row))))
+invariant-loop-at l = l.cnf ≡ with_clauses l.initial.cnf (of_thing l.made.var (needs_of l.live.facts.now (numbered 0 l.live.launches.now) (numbered l.live.needs.first (all_needs l.live.needs.cycles (pooled_classes l.live.facts.now (numbered 0 l.live.launches.now)))) l.made.launch.cycle (take l.at (operands_at l.live.facts.now l.made.launch.row))))

@@ -14,25 +14,25 @@ use Rattle.order_encoding.proofs.needs.add_need_at.Goals as goal
 
 pub add_need_of-requires-clause-room : goal.add_need_of-requires-clause-room
 add_need_of-requires-clause-room c =
-    let g = c.args.facts.now in
-    let xs = numbered 0 c.args.launches.now in
-    let ns = numbered c.args.needs.now.first (all_needs c.args.needs.now.cycles (pooled_classes g xs)) in
-    let at = c.in-Some.ensures ∙ ap (λ (g : LaunchGraph). slice_get (operands_at g c.args.launch.row) c.args.at) c.graph.ensures in
-    subst (λ (o : Option Operand). length c.args.cnf.now.clauses + length (needs_of g xs ns c.args.launch.cycle (one_or_none o)) < 2 ^ 30) (sym at) c.requires.room
+    let g = c.args.live.now.facts.now in
+    let xs = numbered 0 c.args.live.now.launches.now in
+    let ns = numbered c.args.live.now.needs.first (all_needs c.args.live.now.needs.cycles (pooled_classes g xs)) in
+    let at = c.in-Some.ensures ∙ ap (λ (g : LaunchGraph). slice_get (operands_at g c.args.made.launch.row) c.args.at) c.graph.ensures in
+    subst (λ (o : Option Operand). length c.args.cnf.now.clauses + length (needs_of g xs ns c.args.made.launch.cycle (one_or_none o)) < 2 ^ 30) (sym at) c.requires.room
 
 pub returns-in-Some : goal.returns-in-Some
 returns-in-Some c =
-    let g = c.args.facts.now in
-    let xs = numbered 0 c.args.launches.now in
-    let ns = numbered c.args.needs.now.first (all_needs c.args.needs.now.cycles (pooled_classes g xs)) in
-    let at = c.in-Some.ensures ∙ ap (λ (g : LaunchGraph). slice_get (operands_at g c.args.launch.row) c.args.at) c.graph.ensures in
-    then_is c.add_need_of.result c.args.cnf.now c.add_need_of.new.cnf (of_thing c.args.var (needs_of g xs ns c.args.launch.cycle (one_or_none (Some c.in-Some.operand)))) (of_thing c.args.var (needs_of g xs ns c.args.launch.cycle (one_or_none (slice_get (operands_at g c.args.launch.row) c.args.at))))
-    (ap (λ (o : Option Operand). of_thing c.args.var (needs_of g xs ns c.args.launch.cycle (one_or_none o))) at) c.add_need_of.ensures
+    let g = c.args.live.now.facts.now in
+    let xs = numbered 0 c.args.live.now.launches.now in
+    let ns = numbered c.args.live.now.needs.first (all_needs c.args.live.now.needs.cycles (pooled_classes g xs)) in
+    let at = c.in-Some.ensures ∙ ap (λ (g : LaunchGraph). slice_get (operands_at g c.args.made.launch.row) c.args.at) c.graph.ensures in
+    then_is c.add_need_of.result c.args.cnf.now c.add_need_of.new.cnf (of_thing c.args.made.var (needs_of g xs ns c.args.made.launch.cycle (one_or_none (Some c.in-Some.operand)))) (of_thing c.args.made.var (needs_of g xs ns c.args.made.launch.cycle (one_or_none (slice_get (operands_at g c.args.made.launch.row) c.args.at))))
+    (ap (λ (o : Option Operand). of_thing c.args.made.var (needs_of g xs ns c.args.made.launch.cycle (one_or_none o))) at) c.add_need_of.ensures
 
 pub returns-in-None : goal.returns-in-None
 returns-in-None c =
-    let g = c.args.facts.now in
-    let xs = numbered 0 c.args.launches.now in
-    let ns = numbered c.args.needs.now.first (all_needs c.args.needs.now.cycles (pooled_classes g xs)) in
-    let at = c.in-None.ensures ∙ ap (λ (g : LaunchGraph). slice_get (operands_at g c.args.launch.row) c.args.at) c.graph.ensures in
-    with-none c.args.cnf.now ∙ ap (λ (o : Option Operand). with_clauses c.args.cnf.now (of_thing c.args.var (needs_of g xs ns c.args.launch.cycle (one_or_none o)))) at
+    let g = c.args.live.now.facts.now in
+    let xs = numbered 0 c.args.live.now.launches.now in
+    let ns = numbered c.args.live.now.needs.first (all_needs c.args.live.now.needs.cycles (pooled_classes g xs)) in
+    let at = c.in-None.ensures ∙ ap (λ (g : LaunchGraph). slice_get (operands_at g c.args.made.launch.row) c.args.at) c.graph.ensures in
+    with-none c.args.cnf.now ∙ ap (λ (o : Option Operand). with_clauses c.args.cnf.now (of_thing c.args.made.var (needs_of g xs ns c.args.made.launch.cycle (one_or_none o)))) at

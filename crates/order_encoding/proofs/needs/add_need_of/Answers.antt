@@ -11,29 +11,29 @@ use Rattle.order_encoding.proofs.needs.add_need_of.Goals as goal
 
 pub returns-then-is_free : goal.returns-then-is_free
 returns-then-is_free c =
-    let g = c.args.facts.now in
-    let xs = numbered 0 c.args.launches.now in
-    let ns = numbered c.args.needs.now.first (all_needs c.args.needs.now.cycles (pooled_classes g xs)) in
+    let g = c.args.live.now.facts.now in
+    let xs = numbered 0 c.args.live.now.launches.now in
+    let ns = numbered c.args.live.now.needs.first (all_needs c.args.live.now.needs.cycles (pooled_classes g xs)) in
     free_need g xs ns c.args.cycle c.args.operand c.args.var c.args.cnf.now (sym c.is_free.ensures ∙ c.if-is_free.true)
 
 pub returns-then-not-is_pooled : goal.returns-then-not-is_pooled
 returns-then-not-is_pooled c =
-    let g = c.args.facts.now in
-    let xs = numbered 0 c.args.launches.now in
-    let ns = numbered c.args.needs.now.first (all_needs c.args.needs.now.cycles (pooled_classes g xs)) in
+    let g = c.args.live.now.facts.now in
+    let xs = numbered 0 c.args.live.now.launches.now in
+    let ns = numbered c.args.live.now.needs.first (all_needs c.args.live.now.needs.cycles (pooled_classes g xs)) in
     unpooled_need g xs ns c.args.cycle c.args.operand c.args.var c.args.cnf.now (sym c.is_pooled.ensures ∙ c.if-not-is_pooled.true)
 
 pub add_implied-requires-clause-lit : goal.add_implied-requires-clause-lit
 add_implied-requires-clause-lit c =
-    let g = c.args.facts.now in
-    let xs = numbered 0 c.args.launches.now in
-    let ns = numbered c.args.needs.now.first (all_needs c.args.needs.now.cycles (pooled_classes g xs)) in
-    lits_exist (is_need_at c.args.operand.class c.args.cycle) c.args.needs.now.first c.args.cnf.now.vars (all_needs c.args.needs.now.cycles (pooled_classes g xs)) (option_to_list c.need_var-need.result) c.need_var-need.ensures c.requires.exist
+    let g = c.args.live.now.facts.now in
+    let xs = numbered 0 c.args.live.now.launches.now in
+    let ns = numbered c.args.live.now.needs.first (all_needs c.args.live.now.needs.cycles (pooled_classes g xs)) in
+    lits_exist (is_need_at c.args.operand.class c.args.cycle) c.args.live.now.needs.first c.args.cnf.now.vars (all_needs c.args.live.now.needs.cycles (pooled_classes g xs)) (option_to_list c.need_var-need.result) c.need_var-need.ensures c.requires.exist
 
 pub returns : goal.returns
 returns c =
-    let g = c.args.facts.now in
-    let xs = numbered 0 c.args.launches.now in
-    let ns = numbered c.args.needs.now.first (all_needs c.args.needs.now.cycles (pooled_classes g xs)) in
+    let g = c.args.live.now.facts.now in
+    let xs = numbered 0 c.args.live.now.launches.now in
+    let ns = numbered c.args.live.now.needs.first (all_needs c.args.live.now.needs.cycles (pooled_classes g xs)) in
     then_is c.add_implied.result c.args.cnf.now c.add_implied.new.cnf ((negative c.args.var ∷ option_to_list c.need_var-need.result) ∷ []) (of_thing c.args.var (needs_of g xs ns c.args.cycle (c.args.operand ∷ [])))
     (due_need g xs ns c.args.cycle c.args.operand c.args.var (option_to_list c.need_var-need.result) (sym c.is_free.ensures ∙ c.if-is_free.false) (sym c.is_pooled.ensures ∙ c.if-not-is_pooled.false) c.need_var-need.ensures) c.add_implied.ensures

@@ -7,9 +7,9 @@ use Rattle.order_encoding.proofs.needs.need_vars.Given as goal
 
 abbrev pub invariant-loop-class : goal.invariant-loop-class
 invariant-loop-class l = record {
-  classes : l.classes.items ≡ filter (is_pooled l.facts (numbered 0 l.launches)) (range_with_len 0 l.class);
-  starts : l.starts.items ≡ map (start_of (is_pooled l.facts (numbered 0 l.launches)) l.k) (range_with_len 0 l.class);
-  start : l.start ≡ needs_below (is_pooled l.facts (numbered 0 l.launches)) l.k l.class;
+  classes : l.classes.items ≡ filter (is_pooled l.fn.facts (numbered 0 l.launches)) (range_with_len 0 l.class);
+  starts : l.starts.items ≡ map (start_of (is_pooled l.fn.facts (numbered 0 l.launches)) l.k) (range_with_len 0 l.class);
+  start : l.start ≡ needs_below (is_pooled l.fn.facts (numbered 0 l.launches)) l.k l.class;
   small : l.start ≤ l.class * 24;
   few : length l.classes.items ≤ l.class;
 }

@@ -7,13 +7,13 @@ use Rattle.order_encoding.proofs.needs.needs_count.Goals as goal
 
 pub overflow_mul-result : goal.overflow_mul-result
 overflow_mul-result c =
-    let nv = c.args.needs.now in
-    let many : length (all_needs nv.cycles (pooled_classes c.args._facts.now (numbered 0 c.args._launches.now))) ≡ c.len.result * nv.cycles = ap (λ (cs : List ℕ). length (all_needs nv.cycles cs)) (sym c.requires.needs.classes_are) ∙ needs-count nv.cycles nv.classes.items ∙ ap (λ m. m * nv.cycles) (sym (c.len.ensures ∙ nv.classes.ok.0)) in
+    let nv = c.args.live.now.needs in
+    let many : length (all_needs nv.cycles (pooled_classes c.args.live.now.facts.now (numbered 0 c.args.live.now.launches.now))) ≡ c.len.result * nv.cycles = ap (λ (cs : List ℕ). length (all_needs nv.cycles cs)) (sym c.requires.needs.classes_are) ∙ needs-count nv.cycles nv.classes.items ∙ ap (λ m. m * nv.cycles) (sym (c.len.ensures ∙ nv.classes.ok.0)) in
     let few = c.requires.few in
     omega (arith, many, few)
 
 pub returns : goal.returns
 returns c =
-    let nv = c.args.needs.now in
-    let many : length (all_needs nv.cycles (pooled_classes c.args._facts.now (numbered 0 c.args._launches.now))) ≡ c.len.result * nv.cycles = ap (λ (cs : List ℕ). length (all_needs nv.cycles cs)) (sym c.requires.needs.classes_are) ∙ needs-count nv.cycles nv.classes.items ∙ ap (λ m. m * nv.cycles) (sym (c.len.ensures ∙ nv.classes.ok.0)) in
+    let nv = c.args.live.now.needs in
+    let many : length (all_needs nv.cycles (pooled_classes c.args.live.now.facts.now (numbered 0 c.args.live.now.launches.now))) ≡ c.len.result * nv.cycles = ap (λ (cs : List ℕ). length (all_needs nv.cycles cs)) (sym c.requires.needs.classes_are) ∙ needs-count nv.cycles nv.classes.items ∙ ap (λ m. m * nv.cycles) (sym (c.len.ensures ∙ nv.classes.ok.0)) in
     sym many

@@ -9,10 +9,10 @@ use Rattle.order_encoding.proofs.pin_counts.late_count.Goals as goal
 
 pub loop-row-preserved : goal.loop-row-preserved
 loop-row-preserved c =
-    let g = c.args.facts.now in
+    let g = c.args.frame.now.facts.now in
     let n = c.loop-row.row in
-    let A : ℕ → ℕ = λ row. row_count g c.args.table.now c.args.k c.args.scope.now row in
-    let B : ℕ → ℕ = λ row. sum_by (λ to. one_if (overwrites_at g to)) (row_destinations g (allocation_in c.args.scope.now) row) in
+    let A : ℕ → ℕ = λ row. row_count g c.args.frame.now.table.now c.args.frame.now.k c.args.frame.now.scope.now row in
+    let B : ℕ → ℕ = λ row. sum_by (λ to. one_if (overwrites_at g to)) (row_destinations g (allocation_in c.args.frame.now.scope.now) row) in
     let small : (old x : ℕ) → old ≤ n * 6200 → x ≤ 6200 → old + x ≤ (n + 1) * 6200 = λ old x p q. omega arith in
     record {
       is = row_more A B n c.loop-row.count c.row_count.result c.late.result c.loop-row.invariant.is c.row_count.ensures.value (c.late.ensures.value ∙ ap (λ x. sum_by (λ to. one_if (overwrites_at g to)) (row_destinations g x n)) c.allocation.ensures);

@@ -5,4 +5,4 @@ use Rattle.order_encoding.specs.OrderSteps.{next_in_set}
 use Rattle.order_encoding.proofs.pins.add_goes.Given as goal
 
 abbrev pub invariant-loop-index : goal.invariant-loop-index
-invariant-loop-index l = l.cnf ≡ with_clauses l.initial.cnf (implied (numbered 0 (take l.index l.launches)) (next_in_set l.k l.before l.set))
+invariant-loop-index l = l.cnf ≡ with_clauses l.initial.cnf (implied (numbered 0 (take l.index l.plan.launches.now)) (next_in_set l.plan.frame.k l.before l.set))

@@ -6,4 +6,4 @@ use Rattle.order_encoding.specs.PinFamilies.{overwrites_after}
 use Rattle.order_encoding.proofs.pins.add_late.Given as goal
 
 abbrev pub invariant-loop-index : goal.invariant-loop-index
-invariant-loop-index l = l.cnf ≡ with_clauses l.initial.cnf (implied (numbered 0 (take l.index l.launches)) (overwrites_after l.facts (numbered l.first (range_with_len 0 l.k))))
+invariant-loop-index l = l.cnf ≡ with_clauses l.initial.cnf (implied (numbered 0 (take l.index l.plan.launches.now)) (overwrites_after l.plan.frame.facts.now (numbered l.first (range_with_len 0 l.plan.frame.k))))

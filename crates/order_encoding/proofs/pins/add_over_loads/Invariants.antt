@@ -6,4 +6,4 @@ use Rattle.order_encoding.specs.PinFamilies.{loads_alone}
 use Rattle.order_encoding.proofs.pins.add_over_loads.Given as goal
 
 abbrev pub invariant-loop-index : goal.invariant-loop-index
-invariant-loop-index l = l.cnf ≡ with_clauses l.initial.cnf (implied (numbered 0 (take l.index l.launches)) (loads_alone l.facts (numbered l.first (range_with_len 0 l.k))))
+invariant-loop-index l = l.cnf ≡ with_clauses l.initial.cnf (implied (numbered 0 (take l.index l.plan.launches.now)) (loads_alone l.plan.frame.facts.now (numbered l.first (range_with_len 0 l.plan.frame.k))))

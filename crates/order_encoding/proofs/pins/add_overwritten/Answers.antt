@@ -17,11 +17,11 @@ use Rattle.order_encoding.proofs.pins.add_overwritten.Goals.{then-is_overwriting
 
 pub add_set-requires-clause-launches : goal.add_set-requires-clause-launches
 add_set-requires-clause-launches c =
-    let g = c.args.facts.now in
-    let k = c.args.k in
-    let first = c.args.first in
+    let g = c.args.plan.now.frame.facts.now in
+    let k = c.args.plan.now.frame.k in
+    let first = c.args.plan.now.overwritten in
     let j = c.loop-set.set in
-    let ls = c.args.launches.now in
+    let ls = c.args.plan.now.launches.now in
     let xs = numbered 0 ls in
     let vs = numbered first (all_overwritten g k) in
     let S = set_clauses k xs vs in
@@ -35,11 +35,11 @@ add_set-requires-clause-launches c =
 
 pub add_set-requires-clause-exist : goal.add_set-requires-clause-exist
 add_set-requires-clause-exist c =
-    let g = c.args.facts.now in
-    let k = c.args.k in
-    let first = c.args.first in
+    let g = c.args.plan.now.frame.facts.now in
+    let k = c.args.plan.now.frame.k in
+    let first = c.args.plan.now.overwritten in
     let j = c.loop-set.set in
-    let ls = c.args.launches.now in
+    let ls = c.args.plan.now.launches.now in
     let xs = numbered 0 ls in
     let vs = numbered first (all_overwritten g k) in
     let S = set_clauses k xs vs in
@@ -55,11 +55,11 @@ add_set-requires-clause-exist c =
 
 pub add_set-requires-clause-few : goal.add_set-requires-clause-few
 add_set-requires-clause-few c =
-    let g = c.args.facts.now in
-    let k = c.args.k in
-    let first = c.args.first in
+    let g = c.args.plan.now.frame.facts.now in
+    let k = c.args.plan.now.frame.k in
+    let first = c.args.plan.now.overwritten in
     let j = c.loop-set.set in
-    let ls = c.args.launches.now in
+    let ls = c.args.plan.now.launches.now in
     let xs = numbered 0 ls in
     let vs = numbered first (all_overwritten g k) in
     let S = set_clauses k xs vs in
@@ -74,11 +74,11 @@ add_set-requires-clause-few c =
 
 pub add_set-requires-clause-room : goal.add_set-requires-clause-room
 add_set-requires-clause-room c =
-    let g = c.args.facts.now in
-    let k = c.args.k in
-    let first = c.args.first in
+    let g = c.args.plan.now.frame.facts.now in
+    let k = c.args.plan.now.frame.k in
+    let first = c.args.plan.now.overwritten in
     let j = c.loop-set.set in
-    let ls = c.args.launches.now in
+    let ls = c.args.plan.now.launches.now in
     let xs = numbered 0 ls in
     let vs = numbered first (all_overwritten g k) in
     let S = set_clauses k xs vs in
@@ -95,20 +95,20 @@ add_set-requires-clause-room c =
 
 pub returns : goal.returns
 returns c =
-    let g = c.args.facts.now in
-    let k = c.args.k in
-    let S = set_clauses k (numbered 0 c.args.launches.now) (numbered c.args.first (all_overwritten g k)) in
+    let g = c.args.plan.now.frame.facts.now in
+    let k = c.args.plan.now.frame.k in
+    let S = set_clauses k (numbered 0 c.args.plan.now.launches.now) (numbered c.args.plan.now.overwritten (all_overwritten g k)) in
     let end = c.set_count-set-end.ensures in
     let e : c.loop-set.set ≡ length g.sets = (let a = c.loop-set.auto.set-end in let b = c.loop-set-test.false in omega arith) in
     c.loop-set.invariant.cnf ∙ ap (λ n. with_clauses c.args.cnf.now (flat_map S (filter (is_overwriting g) (range_with_len 0 n)))) e
 
 pub overflow_add-before-then-is_overwriting : goal.overflow_add-before-then-is_overwriting
 overflow_add-before-then-is_overwriting c =
-    let g = c.args.facts.now in
-    let k = c.args.k in
-    let first = c.args.first in
+    let g = c.args.plan.now.frame.facts.now in
+    let k = c.args.plan.now.frame.k in
+    let first = c.args.plan.now.overwritten in
     let j = c.loop-set.set in
-    let ls = c.args.launches.now in
+    let ls = c.args.plan.now.launches.now in
     let xs = numbered 0 ls in
     let vs = numbered first (all_overwritten g k) in
     let S = set_clauses k xs vs in
@@ -124,11 +124,11 @@ overflow_add-before-then-is_overwriting c =
 
 pub loop-set-preserved : goal.loop-set-preserved
 loop-set-preserved c =
-    let g = c.args.facts.now in
-    let k = c.args.k in
-    let first = c.args.first in
+    let g = c.args.plan.now.frame.facts.now in
+    let k = c.args.plan.now.frame.k in
+    let first = c.args.plan.now.overwritten in
     let j = c.loop-set.set in
-    let ls = c.args.launches.now in
+    let ls = c.args.plan.now.launches.now in
     let xs = numbered 0 ls in
     let vs = numbered first (all_overwritten g k) in
     let S = set_clauses k xs vs in

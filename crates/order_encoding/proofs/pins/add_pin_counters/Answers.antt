@@ -12,8 +12,8 @@ use Rattle.order_encoding.proofs.pins.add_pin_counters.Goals as goal
 
 pub at_most_one-requires-clause-exist : goal.at_most_one-requires-clause-exist
 at_most_one-requires-clause-exist c =
-    let ls = c.args.launches.now in
-    let pins = pinned_sets c.args.facts.now in
+    let ls = c.args.plan.now.launches.now in
+    let pins = pinned_sets c.args.plan.now.frame.facts.now in
     let i = c.loop-set.set-index in
     let group = λ (j : ℕ). vars_of (goes_to j) (numbered 0 ls) in
     let same = c.pins-set-items.ensures.value in
@@ -25,8 +25,8 @@ at_most_one-requires-clause-exist c =
 
 pub at_most_one-requires-clause-short : goal.at_most_one-requires-clause-short
 at_most_one-requires-clause-short c =
-    let ls = c.args.launches.now in
-    let pins = pinned_sets c.args.facts.now in
+    let ls = c.args.plan.now.launches.now in
+    let pins = pinned_sets c.args.plan.now.frame.facts.now in
     let i = c.loop-set.set-index in
     let group = λ (j : ℕ). vars_of (goes_to j) (numbered 0 ls) in
     let same = c.pins-set-items.ensures.value in
@@ -40,8 +40,8 @@ at_most_one-requires-clause-short c =
 
 pub at_most_one-requires-clause-vars : goal.at_most_one-requires-clause-vars
 at_most_one-requires-clause-vars c =
-    let ls = c.args.launches.now in
-    let pins = pinned_sets c.args.facts.now in
+    let ls = c.args.plan.now.launches.now in
+    let pins = pinned_sets c.args.plan.now.frame.facts.now in
     let i = c.loop-set.set-index in
     let group = λ (j : ℕ). vars_of (goes_to j) (numbered 0 ls) in
     let same = c.pins-set-items.ensures.value in
@@ -51,8 +51,8 @@ at_most_one-requires-clause-vars c =
 
 pub at_most_one-requires-clause-room : goal.at_most_one-requires-clause-room
 at_most_one-requires-clause-room c =
-    let ls = c.args.launches.now in
-    let pins = pinned_sets c.args.facts.now in
+    let ls = c.args.plan.now.launches.now in
+    let pins = pinned_sets c.args.plan.now.frame.facts.now in
     let i = c.loop-set.set-index in
     let group = λ (j : ℕ). vars_of (goes_to j) (numbered 0 ls) in
     let same = c.pins-set-items.ensures.value in
@@ -62,8 +62,8 @@ at_most_one-requires-clause-room c =
 
 pub loop-set-preserved : goal.loop-set-preserved
 loop-set-preserved c =
-    let ls = c.args.launches.now in
-    let pins = pinned_sets c.args.facts.now in
+    let ls = c.args.plan.now.launches.now in
+    let pins = pinned_sets c.args.plan.now.frame.facts.now in
     let i = c.loop-set.set-index in
     let group = λ (j : ℕ). vars_of (goes_to j) (numbered 0 ls) in
     let same = c.pins-set-items.ensures.value in

@@ -14,11 +14,11 @@ use Rattle.order_encoding.proofs.pins.add_reached.Goals as goal
 
 pub add_reached_set-requires-clause-exist : goal.add_reached_set-requires-clause-exist
 add_reached_set-requires-clause-exist c =
-    let xs = numbered 0 c.args.launches.now in
-    let pins = pinned_sets c.args.facts.now in
+    let xs = numbered 0 c.args.plan.now.launches.now in
+    let pins = pinned_sets c.args.plan.now.frame.facts.now in
     let i = c.loop-set.set-index in
     let f = λ (j : ℕ). vars_of (goes_to j) xs in
-    let test = λ (j : ℕ). not (has_own_input c.args.facts.now j) in
+    let test = λ (j : ℕ). not (has_own_input c.args.plan.now.frame.facts.now j) in
     let F : ℕ → List (List Lit) = λ j. when (test j) (f j ∷ []) in
     let same = c.pins-set-items.ensures.value in
     let lt : i < length pins = subst (λ (js : List ℕ). i < length js) same c.loop-set-test.true in
@@ -30,11 +30,11 @@ add_reached_set-requires-clause-exist c =
 
 pub add_reached_set-requires-clause-few : goal.add_reached_set-requires-clause-few
 add_reached_set-requires-clause-few c =
-    let xs = numbered 0 c.args.launches.now in
-    let pins = pinned_sets c.args.facts.now in
+    let xs = numbered 0 c.args.plan.now.launches.now in
+    let pins = pinned_sets c.args.plan.now.frame.facts.now in
     let i = c.loop-set.set-index in
     let f = λ (j : ℕ). vars_of (goes_to j) xs in
-    let test = λ (j : ℕ). not (has_own_input c.args.facts.now j) in
+    let test = λ (j : ℕ). not (has_own_input c.args.plan.now.frame.facts.now j) in
     let F : ℕ → List (List Lit) = λ j. when (test j) (f j ∷ []) in
     let same = c.pins-set-items.ensures.value in
     let lt : i < length pins = subst (λ (js : List ℕ). i < length js) same c.loop-set-test.true in
@@ -46,11 +46,11 @@ add_reached_set-requires-clause-few c =
 
 pub add_reached_set-requires-clause-room : goal.add_reached_set-requires-clause-room
 add_reached_set-requires-clause-room c =
-    let xs = numbered 0 c.args.launches.now in
-    let pins = pinned_sets c.args.facts.now in
+    let xs = numbered 0 c.args.plan.now.launches.now in
+    let pins = pinned_sets c.args.plan.now.frame.facts.now in
     let i = c.loop-set.set-index in
     let f = λ (j : ℕ). vars_of (goes_to j) xs in
-    let test = λ (j : ℕ). not (has_own_input c.args.facts.now j) in
+    let test = λ (j : ℕ). not (has_own_input c.args.plan.now.frame.facts.now j) in
     let F : ℕ → List (List Lit) = λ j. when (test j) (f j ∷ []) in
     let same = c.pins-set-items.ensures.value in
     let lt : i < length pins = subst (λ (js : List ℕ). i < length js) same c.loop-set-test.true in
@@ -64,11 +64,11 @@ add_reached_set-requires-clause-room c =
 
 pub loop-set-preserved : goal.loop-set-preserved
 loop-set-preserved c =
-    let xs = numbered 0 c.args.launches.now in
-    let pins = pinned_sets c.args.facts.now in
+    let xs = numbered 0 c.args.plan.now.launches.now in
+    let pins = pinned_sets c.args.plan.now.frame.facts.now in
     let i = c.loop-set.set-index in
     let f = λ (j : ℕ). vars_of (goes_to j) xs in
-    let test = λ (j : ℕ). not (has_own_input c.args.facts.now j) in
+    let test = λ (j : ℕ). not (has_own_input c.args.plan.now.frame.facts.now j) in
     let F : ℕ → List (List Lit) = λ j. when (test j) (f j ∷ []) in
     let same = c.pins-set-items.ensures.value in
     let lt : i < length pins = subst (λ (js : List ℕ). i < length js) same c.loop-set-test.true in
@@ -78,10 +78,10 @@ loop-set-preserved c =
 
 pub returns : goal.returns
 returns c =
-    let xs = numbered 0 c.args.launches.now in
-    let pins = pinned_sets c.args.facts.now in
+    let xs = numbered 0 c.args.plan.now.launches.now in
+    let pins = pinned_sets c.args.plan.now.frame.facts.now in
     let f = λ (j : ℕ). vars_of (goes_to j) xs in
-    let test = λ (j : ℕ). not (has_own_input c.args.facts.now j) in
+    let test = λ (j : ℕ). not (has_own_input c.args.plan.now.frame.facts.now j) in
     let F : ℕ → List (List Lit) = λ j. when (test j) (f j ∷ []) in
     let long = ap (λ (js : List ℕ). length js) c.pins-set-items.ensures.value in
     let end : length pins ≤ c.loop-set.set-index = omega (arith, long, c.loop-set-test.false) in

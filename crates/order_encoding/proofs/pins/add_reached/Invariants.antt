@@ -9,4 +9,4 @@ use Rattle.order_encoding.specs.PinFamilies.{has_own_input}
 use Rattle.order_encoding.proofs.pins.add_reached.Given as goal
 
 abbrev pub invariant-loop-set : goal.invariant-loop-set
-invariant-loop-set l = l.cnf ≡ with_clauses l.initial.cnf (flat_map (λ j. when (not (has_own_input l.facts j)) (vars_of (goes_to j) (numbered 0 l.launches) ∷ [])) (take l.set-index (pinned_sets l.facts)))
+invariant-loop-set l = l.cnf ≡ with_clauses l.initial.cnf (flat_map (λ j. when (not (has_own_input l.plan.frame.facts.now j)) (vars_of (goes_to j) (numbered 0 l.plan.launches.now) ∷ [])) (take l.set-index (pinned_sets l.plan.frame.facts.now)))

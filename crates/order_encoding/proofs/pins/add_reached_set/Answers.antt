@@ -11,10 +11,10 @@ use Rattle.order_encoding.proofs.pins.add_reached_set.Goals as goal
 
 pub returns-then-has_own_input : goal.returns-then-has_own_input
 returns-then-has_own_input c =
-    let C = vars_of (goes_to c.args.set) (numbered 0 c.args.launches.now) in
+    let C = vars_of (goes_to c.args.set) (numbered 0 c.args.plan.now.launches.now) in
     with-none c.args.cnf.now ∙ ap (λ b. with_clauses c.args.cnf.now (when (not b) (C ∷ []))) (sym c.if-has_own_input.true ∙ c.has_own_input.ensures)
 
 pub add-requires-clause-exist : goal.add-requires-clause-exist
 add-requires-clause-exist c =
     let exist = c.requires.exist in
-    subst (λ (l : List Lit). All (IsLitOf c.args.cnf.now.vars) l) (sym (c.deref.ensures.value ∙ c.in_ok-lits.ensures)) (vars-over (goes_to c.args.set) 0 c.args.cnf.now.vars c.args.launches.now (omega arith))
+    subst (λ (l : List Lit). All (IsLitOf c.args.cnf.now.vars) l) (sym (c.deref.ensures.value ∙ c.in_ok-lits.ensures)) (vars-over (goes_to c.args.set) 0 c.args.cnf.now.vars c.args.plan.now.launches.now (omega arith))

@@ -12,11 +12,11 @@ use Rattle.order_encoding.proofs.pins.extend_by_pins.Goals as goal
 
 pub add_overwritten-requires-clause-room : goal.add_overwritten-requires-clause-room
 add_overwritten-requires-clause-room c =
-    let g = c.args.facts.now in
-    let k = c.args.k in
+    let g = c.args.plan.now.frame.facts.now in
+    let k = c.args.plan.now.frame.k in
     let f = c.args.cnf.now in
-    let xs = numbered 0 c.args.launches.now in
-    let vs = numbered c.args.overwritten (all_overwritten g k) in
+    let xs = numbered 0 c.args.plan.now.launches.now in
+    let vs = numbered c.args.plan.now.overwritten (all_overwritten g k) in
     let bs = numbered c.args.branches (when (is_some g.guard) (range_with_len 0 k)) in
     let ws = numbered c.args.stores (range_with_len 0 k) in
     let O = overwritten_clauses g k xs vs in
@@ -29,11 +29,11 @@ add_overwritten-requires-clause-room c =
 
 pub add_pin_counters-requires-clause-exist : goal.add_pin_counters-requires-clause-exist
 add_pin_counters-requires-clause-exist c =
-    let g = c.args.facts.now in
-    let k = c.args.k in
+    let g = c.args.plan.now.frame.facts.now in
+    let k = c.args.plan.now.frame.k in
     let f = c.args.cnf.now in
-    let xs = numbered 0 c.args.launches.now in
-    let vs = numbered c.args.overwritten (all_overwritten g k) in
+    let xs = numbered 0 c.args.plan.now.launches.now in
+    let vs = numbered c.args.plan.now.overwritten (all_overwritten g k) in
     let bs = numbered c.args.branches (when (is_some g.guard) (range_with_len 0 k)) in
     let ws = numbered c.args.stores (range_with_len 0 k) in
     let O = overwritten_clauses g k xs vs in
@@ -54,11 +54,11 @@ add_pin_counters-requires-clause-exist c =
 
 pub add_pin_counters-requires-clause-vars : goal.add_pin_counters-requires-clause-vars
 add_pin_counters-requires-clause-vars c =
-    let g = c.args.facts.now in
-    let k = c.args.k in
+    let g = c.args.plan.now.frame.facts.now in
+    let k = c.args.plan.now.frame.k in
     let f = c.args.cnf.now in
-    let xs = numbered 0 c.args.launches.now in
-    let vs = numbered c.args.overwritten (all_overwritten g k) in
+    let xs = numbered 0 c.args.plan.now.launches.now in
+    let vs = numbered c.args.plan.now.overwritten (all_overwritten g k) in
     let bs = numbered c.args.branches (when (is_some g.guard) (range_with_len 0 k)) in
     let ws = numbered c.args.stores (range_with_len 0 k) in
     let O = overwritten_clauses g k xs vs in
@@ -79,11 +79,11 @@ add_pin_counters-requires-clause-vars c =
 
 pub add_pin_counters-requires-clause-room : goal.add_pin_counters-requires-clause-room
 add_pin_counters-requires-clause-room c =
-    let g = c.args.facts.now in
-    let k = c.args.k in
+    let g = c.args.plan.now.frame.facts.now in
+    let k = c.args.plan.now.frame.k in
     let f = c.args.cnf.now in
-    let xs = numbered 0 c.args.launches.now in
-    let vs = numbered c.args.overwritten (all_overwritten g k) in
+    let xs = numbered 0 c.args.plan.now.launches.now in
+    let vs = numbered c.args.plan.now.overwritten (all_overwritten g k) in
     let bs = numbered c.args.branches (when (is_some g.guard) (range_with_len 0 k)) in
     let ws = numbered c.args.stores (range_with_len 0 k) in
     let O = overwritten_clauses g k xs vs in
@@ -98,11 +98,11 @@ add_pin_counters-requires-clause-room c =
 
 pub add_reached-requires-clause-exist : goal.add_reached-requires-clause-exist
 add_reached-requires-clause-exist c =
-    let g = c.args.facts.now in
-    let k = c.args.k in
+    let g = c.args.plan.now.frame.facts.now in
+    let k = c.args.plan.now.frame.k in
     let f = c.args.cnf.now in
-    let xs = numbered 0 c.args.launches.now in
-    let vs = numbered c.args.overwritten (all_overwritten g k) in
+    let xs = numbered 0 c.args.plan.now.launches.now in
+    let vs = numbered c.args.plan.now.overwritten (all_overwritten g k) in
     let bs = numbered c.args.branches (when (is_some g.guard) (range_with_len 0 k)) in
     let ws = numbered c.args.stores (range_with_len 0 k) in
     let O = overwritten_clauses g k xs vs in
@@ -125,11 +125,11 @@ add_reached-requires-clause-exist c =
 
 pub add_reached-requires-clause-few : goal.add_reached-requires-clause-few
 add_reached-requires-clause-few c =
-    let g = c.args.facts.now in
-    let k = c.args.k in
+    let g = c.args.plan.now.frame.facts.now in
+    let k = c.args.plan.now.frame.k in
     let f = c.args.cnf.now in
-    let xs = numbered 0 c.args.launches.now in
-    let vs = numbered c.args.overwritten (all_overwritten g k) in
+    let xs = numbered 0 c.args.plan.now.launches.now in
+    let vs = numbered c.args.plan.now.overwritten (all_overwritten g k) in
     let bs = numbered c.args.branches (when (is_some g.guard) (range_with_len 0 k)) in
     let ws = numbered c.args.stores (range_with_len 0 k) in
     let O = overwritten_clauses g k xs vs in
@@ -152,11 +152,11 @@ add_reached-requires-clause-few c =
 
 pub add_reached-requires-clause-room : goal.add_reached-requires-clause-room
 add_reached-requires-clause-room c =
-    let g = c.args.facts.now in
-    let k = c.args.k in
+    let g = c.args.plan.now.frame.facts.now in
+    let k = c.args.plan.now.frame.k in
     let f = c.args.cnf.now in
-    let xs = numbered 0 c.args.launches.now in
-    let vs = numbered c.args.overwritten (all_overwritten g k) in
+    let xs = numbered 0 c.args.plan.now.launches.now in
+    let vs = numbered c.args.plan.now.overwritten (all_overwritten g k) in
     let bs = numbered c.args.branches (when (is_some g.guard) (range_with_len 0 k)) in
     let ws = numbered c.args.stores (range_with_len 0 k) in
     let O = overwritten_clauses g k xs vs in
@@ -173,11 +173,11 @@ add_reached-requires-clause-room c =
 
 pub add_late_of_guard-requires-clause-exist : goal.add_late_of_guard-requires-clause-exist
 add_late_of_guard-requires-clause-exist c =
-    let g = c.args.facts.now in
-    let k = c.args.k in
+    let g = c.args.plan.now.frame.facts.now in
+    let k = c.args.plan.now.frame.k in
     let f = c.args.cnf.now in
-    let xs = numbered 0 c.args.launches.now in
-    let vs = numbered c.args.overwritten (all_overwritten g k) in
+    let xs = numbered 0 c.args.plan.now.launches.now in
+    let vs = numbered c.args.plan.now.overwritten (all_overwritten g k) in
     let bs = numbered c.args.branches (when (is_some g.guard) (range_with_len 0 k)) in
     let ws = numbered c.args.stores (range_with_len 0 k) in
     let O = overwritten_clauses g k xs vs in
@@ -202,11 +202,11 @@ add_late_of_guard-requires-clause-exist c =
 
 pub add_late_of_guard-requires-clause-few : goal.add_late_of_guard-requires-clause-few
 add_late_of_guard-requires-clause-few c =
-    let g = c.args.facts.now in
-    let k = c.args.k in
+    let g = c.args.plan.now.frame.facts.now in
+    let k = c.args.plan.now.frame.k in
     let f = c.args.cnf.now in
-    let xs = numbered 0 c.args.launches.now in
-    let vs = numbered c.args.overwritten (all_overwritten g k) in
+    let xs = numbered 0 c.args.plan.now.launches.now in
+    let vs = numbered c.args.plan.now.overwritten (all_overwritten g k) in
     let bs = numbered c.args.branches (when (is_some g.guard) (range_with_len 0 k)) in
     let ws = numbered c.args.stores (range_with_len 0 k) in
     let O = overwritten_clauses g k xs vs in
@@ -231,11 +231,11 @@ add_late_of_guard-requires-clause-few c =
 
 pub add_late_of_guard-requires-clause-room : goal.add_late_of_guard-requires-clause-room
 add_late_of_guard-requires-clause-room c =
-    let g = c.args.facts.now in
-    let k = c.args.k in
+    let g = c.args.plan.now.frame.facts.now in
+    let k = c.args.plan.now.frame.k in
     let f = c.args.cnf.now in
-    let xs = numbered 0 c.args.launches.now in
-    let vs = numbered c.args.overwritten (all_overwritten g k) in
+    let xs = numbered 0 c.args.plan.now.launches.now in
+    let vs = numbered c.args.plan.now.overwritten (all_overwritten g k) in
     let bs = numbered c.args.branches (when (is_some g.guard) (range_with_len 0 k)) in
     let ws = numbered c.args.stores (range_with_len 0 k) in
     let O = overwritten_clauses g k xs vs in
@@ -254,11 +254,11 @@ add_late_of_guard-requires-clause-room c =
 
 pub add_over_loads-requires-clause-exist : goal.add_over_loads-requires-clause-exist
 add_over_loads-requires-clause-exist c =
-    let g = c.args.facts.now in
-    let k = c.args.k in
+    let g = c.args.plan.now.frame.facts.now in
+    let k = c.args.plan.now.frame.k in
     let f = c.args.cnf.now in
-    let xs = numbered 0 c.args.launches.now in
-    let vs = numbered c.args.overwritten (all_overwritten g k) in
+    let xs = numbered 0 c.args.plan.now.launches.now in
+    let vs = numbered c.args.plan.now.overwritten (all_overwritten g k) in
     let bs = numbered c.args.branches (when (is_some g.guard) (range_with_len 0 k)) in
     let ws = numbered c.args.stores (range_with_len 0 k) in
     let O = overwritten_clauses g k xs vs in
@@ -285,11 +285,11 @@ add_over_loads-requires-clause-exist c =
 
 pub add_over_loads-requires-clause-few : goal.add_over_loads-requires-clause-few
 add_over_loads-requires-clause-few c =
-    let g = c.args.facts.now in
-    let k = c.args.k in
+    let g = c.args.plan.now.frame.facts.now in
+    let k = c.args.plan.now.frame.k in
     let f = c.args.cnf.now in
-    let xs = numbered 0 c.args.launches.now in
-    let vs = numbered c.args.overwritten (all_overwritten g k) in
+    let xs = numbered 0 c.args.plan.now.launches.now in
+    let vs = numbered c.args.plan.now.overwritten (all_overwritten g k) in
     let bs = numbered c.args.branches (when (is_some g.guard) (range_with_len 0 k)) in
     let ws = numbered c.args.stores (range_with_len 0 k) in
     let O = overwritten_clauses g k xs vs in
@@ -316,11 +316,11 @@ add_over_loads-requires-clause-few c =
 
 pub add_over_loads-requires-clause-room : goal.add_over_loads-requires-clause-room
 add_over_loads-requires-clause-room c =
-    let g = c.args.facts.now in
-    let k = c.args.k in
+    let g = c.args.plan.now.frame.facts.now in
+    let k = c.args.plan.now.frame.k in
     let f = c.args.cnf.now in
-    let xs = numbered 0 c.args.launches.now in
-    let vs = numbered c.args.overwritten (all_overwritten g k) in
+    let xs = numbered 0 c.args.plan.now.launches.now in
+    let vs = numbered c.args.plan.now.overwritten (all_overwritten g k) in
     let bs = numbered c.args.branches (when (is_some g.guard) (range_with_len 0 k)) in
     let ws = numbered c.args.stores (range_with_len 0 k) in
     let O = overwritten_clauses g k xs vs in
@@ -341,11 +341,11 @@ add_over_loads-requires-clause-room c =
 
 pub returns : goal.returns
 returns c =
-    let g = c.args.facts.now in
-    let k = c.args.k in
+    let g = c.args.plan.now.frame.facts.now in
+    let k = c.args.plan.now.frame.k in
     let f = c.args.cnf.now in
-    let xs = numbered 0 c.args.launches.now in
-    let vs = numbered c.args.overwritten (all_overwritten g k) in
+    let xs = numbered 0 c.args.plan.now.launches.now in
+    let vs = numbered c.args.plan.now.overwritten (all_overwritten g k) in
     let bs = numbered c.args.branches (when (is_some g.guard) (range_with_len 0 k)) in
     let ws = numbered c.args.stores (range_with_len 0 k) in
     let O = overwritten_clauses g k xs vs in

@@ -6,4 +6,4 @@ use Rattle.order_encoding.specs.PinFamilies.{takes_register}
 use Rattle.order_encoding.proofs.pool.add_takes.Given as goal
 
 abbrev pub invariant-loop-index : goal.invariant-loop-index
-invariant-loop-index l = l.cnf ≡ with_clauses l.initial.cnf (implied (numbered 0 (take l.index l.launches)) (takes_register l.facts (numbered l.first (all_taken l.table l.k))))
+invariant-loop-index l = l.cnf ≡ with_clauses l.initial.cnf (implied (numbered 0 (take l.index l.launches)) (takes_register l.facts (numbered l.taken.first (all_taken l.taken.table.now l.taken.k))))

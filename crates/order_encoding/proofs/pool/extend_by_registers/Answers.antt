@@ -20,11 +20,11 @@ use Rattle.order_encoding.proofs.pool.extend_by_registers.Goals as goal
 
 pub add_takes-requires-clause-exist : goal.add_takes-requires-clause-exist
 add_takes-requires-clause-exist c =
-    let g = c.args.facts.now in
-    let table = c.args.table.now in
-    let k = c.args.k in
+    let g = c.args.plan.now.frame.facts.now in
+    let table = c.args.plan.now.frame.table.now in
+    let k = c.args.plan.now.frame.k in
     let f = c.args.cnf.now in
-    let ls = c.args.launches.now in
+    let ls = c.args.plan.now.launches.now in
     let xs = numbered 0 ls in
     let first = c.vars-first.result in
     let taken = all_taken table k in
@@ -53,11 +53,11 @@ add_takes-requires-clause-exist c =
 
 pub add_takes-requires-clause-room : goal.add_takes-requires-clause-room
 add_takes-requires-clause-room c =
-    let g = c.args.facts.now in
-    let table = c.args.table.now in
-    let k = c.args.k in
+    let g = c.args.plan.now.frame.facts.now in
+    let table = c.args.plan.now.frame.table.now in
+    let k = c.args.plan.now.frame.k in
     let f = c.args.cnf.now in
-    let ls = c.args.launches.now in
+    let ls = c.args.plan.now.launches.now in
     let xs = numbered 0 ls in
     let first = c.vars-first.result in
     let taken = all_taken table k in
@@ -84,11 +84,11 @@ add_takes-requires-clause-room c =
 
 pub at_most-requires-clause-exist : goal.at_most-requires-clause-exist
 at_most-requires-clause-exist c =
-    let g = c.args.facts.now in
-    let table = c.args.table.now in
-    let k = c.args.k in
+    let g = c.args.plan.now.frame.facts.now in
+    let table = c.args.plan.now.frame.table.now in
+    let k = c.args.plan.now.frame.k in
     let f = c.args.cnf.now in
-    let ls = c.args.launches.now in
+    let ls = c.args.plan.now.launches.now in
     let xs = numbered 0 ls in
     let first = c.vars-first.result in
     let taken = all_taken table k in
@@ -119,11 +119,11 @@ at_most-requires-clause-exist c =
 
 pub at_most-requires-clause-short : goal.at_most-requires-clause-short
 at_most-requires-clause-short c =
-    let g = c.args.facts.now in
-    let table = c.args.table.now in
-    let k = c.args.k in
+    let g = c.args.plan.now.frame.facts.now in
+    let table = c.args.plan.now.frame.table.now in
+    let k = c.args.plan.now.frame.k in
     let f = c.args.cnf.now in
-    let ls = c.args.launches.now in
+    let ls = c.args.plan.now.launches.now in
     let xs = numbered 0 ls in
     let first = c.vars-first.result in
     let taken = all_taken table k in
@@ -151,11 +151,11 @@ at_most-requires-clause-short c =
 
 pub at_most-requires-clause-vars : goal.at_most-requires-clause-vars
 at_most-requires-clause-vars c =
-    let g = c.args.facts.now in
-    let table = c.args.table.now in
-    let k = c.args.k in
+    let g = c.args.plan.now.frame.facts.now in
+    let table = c.args.plan.now.frame.table.now in
+    let k = c.args.plan.now.frame.k in
     let f = c.args.cnf.now in
-    let ls = c.args.launches.now in
+    let ls = c.args.plan.now.launches.now in
     let xs = numbered 0 ls in
     let first = c.vars-first.result in
     let taken = all_taken table k in
@@ -186,11 +186,11 @@ at_most-requires-clause-vars c =
 
 pub at_most-requires-clause-room : goal.at_most-requires-clause-room
 at_most-requires-clause-room c =
-    let g = c.args.facts.now in
-    let table = c.args.table.now in
-    let k = c.args.k in
+    let g = c.args.plan.now.frame.facts.now in
+    let table = c.args.plan.now.frame.table.now in
+    let k = c.args.plan.now.frame.k in
     let f = c.args.cnf.now in
-    let ls = c.args.launches.now in
+    let ls = c.args.plan.now.launches.now in
     let xs = numbered 0 ls in
     let first = c.vars-first.result in
     let taken = all_taken table k in
@@ -221,11 +221,11 @@ at_most-requires-clause-room c =
 
 pub returns : goal.returns
 returns c =
-    let g = c.args.facts.now in
-    let table = c.args.table.now in
-    let k = c.args.k in
+    let g = c.args.plan.now.frame.facts.now in
+    let table = c.args.plan.now.frame.table.now in
+    let k = c.args.plan.now.frame.k in
     let f = c.args.cnf.now in
-    let ls = c.args.launches.now in
+    let ls = c.args.plan.now.launches.now in
     let xs = numbered 0 ls in
     let first = c.vars-first.result in
     let taken = all_taken table k in

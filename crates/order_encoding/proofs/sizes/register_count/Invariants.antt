@@ -8,4 +8,4 @@ use Rattle.cycle_encoding.specs.CycleFormula.{allocation_in}
 use Rattle.order_encoding.proofs.sizes.register_count.Given as goal
 
 abbrev pub invariant-loop-row : goal.invariant-loop-row
-invariant-loop-row l = record { is : l.count ≡ sum_by (λ row. row_count l.facts l.table l.k l.scope row * sum_by (λ to. one_if (is_pool to && row_is l.facts gives_word row)) (row_destinations l.facts (allocation_in l.scope) row)) (range_with_len 0 l.row); small : l.count ≤ l.row * 200 }
+invariant-loop-row l = record { is : l.count ≡ sum_by (λ row. row_count l.frame.facts.now l.frame.table.now l.frame.k l.frame.scope.now row * sum_by (λ to. one_if (is_pool to && row_is l.frame.facts.now gives_word row)) (row_destinations l.frame.facts.now (allocation_in l.frame.scope.now) row)) (range_with_len 0 l.row); small : l.count ≤ l.row * 200 }

@@ -6,4 +6,4 @@ use Rattle.cycle_encoding.specs.CycleFormula.{allocation_in}
 use Rattle.order_encoding.proofs.sizes.store_count.Given as goal
 
 abbrev pub invariant-loop-row : goal.invariant-loop-row
-invariant-loop-row l = record { is : l.count ≡ sum_by (λ row. row_stores l.facts l.table l.k l.scope l.cycle row * length (row_destinations l.facts (allocation_in l.scope) row)) (range_with_len 0 l.row); small : l.count ≤ l.row * 256 }
+invariant-loop-row l = record { is : l.count ≡ sum_by (λ row. row_stores l.frame.facts.now l.frame.table.now l.frame.k l.frame.scope.now l.cycle row * length (row_destinations l.frame.facts.now (allocation_in l.frame.scope.now) row)) (range_with_len 0 l.row); small : l.count ≤ l.row * 256 }

@@ -17,3 +17,17 @@ pub returns-clause-within : goal.returns-clause-within
 returns-clause-within c =
     let w = formula_in c.args.scope.now c.args.facts.now c.args.table.now c.args.k in
     c.in_ok-within_limits.ensures.within w c.in_ok-sizes.ensures.vars c.in_ok-sizes.ensures.clauses
+
+pub sizes_with-requires-clause-capacity : goal.sizes_with-requires-clause-capacity
+sizes_with-requires-clause-capacity c = record {
+  is = c.in_ok-capacity.ensures.value;
+  small = c.in_ok-capacity.ensures.small;
+  apart = c.in_ok-capacity.ensures.apart;
+}
+
+pub build_whole-requires-clause-capacity : goal.build_whole-requires-clause-capacity
+build_whole-requires-clause-capacity c = record {
+  is = c.in_ok-capacity.ensures.value;
+  small = c.in_ok-capacity.ensures.small;
+  apart = c.in_ok-capacity.ensures.apart;
+}

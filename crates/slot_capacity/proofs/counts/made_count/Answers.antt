@@ -8,10 +8,10 @@ use Rattle.slot_capacity.proofs.counts.made_count.Goals as goal
 
 pub loop-row-preserved : goal.loop-row-preserved
 loop-row-preserved c =
-    let g = c.args.facts.now in
+    let g = c.args.frame.now.facts.now in
     let n = c.loop-row.row in
-    let A : ℕ → ℕ = λ row. row_made g c.args.table.now c.args.k c.args.scope.now c.args.counted.now row in
-    let B : ℕ → ℕ = λ row. length (row_destinations g (allocation_in c.args.scope.now) row) in
+    let A : ℕ → ℕ = λ row. row_made g c.args.frame.now.table.now c.args.frame.now.k c.args.frame.now.scope.now c.args.counted.now row in
+    let B : ℕ → ℕ = λ row. length (row_destinations g (allocation_in c.args.frame.now.scope.now) row) in
     let small : (old x : ℕ) → old ≤ n * 6400 → x ≤ 6400 → old + x ≤ (n + 1) * 6400 = λ old x p q. omega arith in
     record {
       is =

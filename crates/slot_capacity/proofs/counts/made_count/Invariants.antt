@@ -9,8 +9,8 @@ abbrev pub invariant-loop-row : goal.invariant-loop-row
 invariant-loop-row l = record {
   is : l.count
       ≡ sum_by
-      (λ row. row_made l.facts l.table l.k l.scope l.counted row
-      * length (row_destinations l.facts (allocation_in l.scope) row))
+      (λ row. row_made l.frame.facts.now l.frame.table.now l.frame.k l.frame.scope.now l.counted row
+      * length (row_destinations l.frame.facts.now (allocation_in l.frame.scope.now) row))
       (range_with_len 0 l.row);
   small : l.count ≤ l.row * 6400;
 }

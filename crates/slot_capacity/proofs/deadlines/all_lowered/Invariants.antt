@@ -6,5 +6,5 @@ abbrev pub invariant-loop-own : goal.invariant-loop-own
 invariant-loop-own l =
     l.lower.items
     ≡ map
-    (λ own. lowered_by l.facts l.table l.k l.makers.spans.items (get_or l.lists.items own.class []) own)
+    (λ own. lowered_by l.makers.frame.facts.now l.makers.frame.table.now l.makers.frame.k l.makers.spans.items (get_or l.lists.items own.class []) own)
     (take l.own-index l.deadlines)

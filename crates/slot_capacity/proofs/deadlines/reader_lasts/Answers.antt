@@ -7,7 +7,7 @@ use Rattle.slot_capacity.proofs.deadlines.reader_lasts.Goals as goal
 
 pub loop-reader-preserved : goal.loop-reader-preserved
 loop-reader-preserved c =
-    lasts-more c.args.facts.now c.args.makers.now.spans.items c.args.deadlines.now c.loop-reader.reader-index
+    lasts-more c.args.makers.now.frame.facts.now c.args.makers.now.spans.items c.args.deadlines.now c.loop-reader.reader-index
     no_deadline c.loop-reader-test.true c.loop-reader.lists.items c.put_last.new.lists.items c.loop-reader.invariant
     (c.in_ok-put_last.ensures
     ∙ ap

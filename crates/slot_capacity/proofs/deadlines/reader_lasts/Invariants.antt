@@ -6,4 +6,4 @@ use Rattle.slot_capacity.proofs.deadlines.reader_lasts.Given as goal
 abbrev pub invariant-loop-reader : goal.invariant-loop-reader
 invariant-loop-reader l =
     l.lists.items
-    ≡ map (lasts_for l.facts l.makers.spans.items (take l.reader-index l.deadlines)) (classes_of l.facts)
+    ≡ map (lasts_for l.makers.frame.facts.now l.makers.spans.items (take l.reader-index l.deadlines)) (classes_of l.makers.frame.facts.now)

@@ -9,7 +9,7 @@ use Rattle.slot_capacity.proofs.due.due_classes.Goals as goal
 
 pub returns-then-eq : goal.returns-then-eq
 returns-then-eq c =
-    let g = c.args.facts.now in
+    let g = c.args.makers.now.frame.facts.now in
     let spans = c.args.makers.now.spans.items in
     let n = c.loop-step._step in
     let due = c.loop-step.due.items in
@@ -28,7 +28,7 @@ returns-then-eq c =
 
 pub loop-step-preserved : goal.loop-step-preserved
 loop-step-preserved c =
-    let g = c.args.facts.now in
+    let g = c.args.makers.now.frame.facts.now in
     let spans = c.args.makers.now.spans.items in
     let n = c.loop-step._step in
     let one : suc n ≡ n + 1 = omega arith in
@@ -37,7 +37,7 @@ loop-step-preserved c =
 
 pub returns : goal.returns
 returns c =
-    let g = c.args.facts.now in
+    let g = c.args.makers.now.frame.facts.now in
     let spans = c.args.makers.now.spans.items in
     let end = c.next_class-step-end.ensures ∙ ap (λ (g : LaunchGraph). next_class g.rows) c.graph.ensures in
     let past = c.loop-step-test.false in

@@ -14,7 +14,7 @@ use Rattle.slot_capacity.proofs.due.more_due.Goals as goal
 
 pub loop-class-preserved : goal.loop-class-preserved
 loop-class-preserved c =
-    let g = c.args.facts.now in
+    let g = c.args.makers.now.frame.facts.now in
     let class = c.loop-class.class in
     let due = c.in_ok-due_marks.due_marks.items in
     let read = c.in_ok-read_marks.read_marks.items in
@@ -39,7 +39,7 @@ loop-class-preserved c =
 
 pub returns : goal.returns
 returns c =
-    let g = c.args.facts.now in
+    let g = c.args.makers.now.frame.facts.now in
     let m = c.args.makers.now in
     let due = c.in_ok-due_marks.due_marks.items in
     let read = c.in_ok-read_marks.read_marks.items in

@@ -8,5 +8,5 @@ abbrev pub invariant-loop-class : goal.invariant-loop-class
 invariant-loop-class l =
     l.more.items
     ≡ filter
-    (λ c. get_or l.due_marks.items c false || (can_be_due l.facts c && get_or l.read_marks.items c false))
+    (λ c. get_or l.due_marks.items c false || (can_be_due l.makers.frame.facts.now c && get_or l.read_marks.items c false))
     (range_with_len 0 l.class)

@@ -8,7 +8,7 @@ use Rattle.slot_capacity.proofs.limits.limits.Goals as goal
 
 pub push_limits-requires-clause-group : goal.push_limits-requires-clause-group
 push_limits-requires-clause-group c =
-    let table = c.args.table.now in
+    let table = c.args.makers.now.frame.table.now in
     let group = c.group-item.result in
     let there : Contains (groups_of table) group =
     subst (λ (gs : List (List ℕ)). Contains gs group) (c.as_slice-group-items.ensures.value ∙ c.in_ok-groups.ensures)
@@ -22,7 +22,7 @@ push_limits-requires-clause-group c =
 pub loop-group-preserved : goal.loop-group-preserved
 loop-group-preserved c =
     let f =
-    group_limits c.args.facts.now c.args.table.now c.args.k c.args.makers.now.spans.items c.args.deadlines.now in
+    group_limits c.args.makers.now.frame.facts.now c.args.makers.now.frame.table.now c.args.makers.now.frame.k c.args.makers.now.spans.items c.args.deadlines.now in
     let items = c.as_slice-group-items.result.now in
     flat-pushed f items items c.loop-group.group-index c.group-item.result refl c.loop-group-test.true
     c.loop-group.limits.items c.push_limits.new.limits.items (f c.as_slice.result.now) c.loop-group.invariant

@@ -6,4 +6,4 @@ use Rattle.slot_capacity.proofs.limits.limits.Given as goal
 abbrev pub invariant-loop-group : goal.invariant-loop-group
 invariant-loop-group l =
     l.limits.items
-    ≡ flat_map (group_limits l.facts l.table l.k l.makers.spans.items l.deadlines) (take l.group-index l.group-items)
+    ≡ flat_map (group_limits l.makers.frame.facts.now l.makers.frame.table.now l.makers.frame.k l.makers.spans.items l.deadlines) (take l.group-index l.group-items)

@@ -7,7 +7,7 @@ use Rattle.slot_capacity.proofs.limits.members.Goals as goal
 
 pub loop-one-preserved : goal.loop-one-preserved
 loop-one-preserved c =
-    let test = λ (x : Deadline). belongs c.args.facts.now c.args.table.now c.args.makers.now.spans.items
+    let test = λ (x : Deadline). belongs c.args.makers.now.frame.facts.now c.args.makers.now.frame.table.now c.args.makers.now.spans.items
     c.args.group.now x.class in
     let mid = c.loop-one.members.items in
     filter-pushed test c.args.deadlines.now c.loop-one.one-index no_deadline c.loop-one-test.true mid

@@ -10,5 +10,5 @@ push_group-requires-clause-early c =
     subst (λ (xs : List Deadline). All (λ (x : Deadline). x.last ≤ 24) xs)
     (sym (c.deref.ensures.value ∙ c.in_ok-members.ensures))
     (All-filter
-    (λ (x : Deadline). belongs c.args.facts.now c.args.table.now c.args.makers.now.spans.items c.args.group.now x.class)
+    (λ (x : Deadline). belongs c.args.makers.now.frame.facts.now c.args.makers.now.frame.table.now c.args.makers.now.spans.items c.args.group.now x.class)
     (λ (x : Deadline). x.last ≤ 24) c.args.deadlines.now c.requires.early)

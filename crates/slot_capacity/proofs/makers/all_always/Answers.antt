@@ -8,7 +8,7 @@ use Rattle.slot_capacity.proofs.makers.all_always.Goals as goal
 
 pub returns : goal.returns
 returns c =
-    let g = c.args.facts.now in
+    let g = c.args.reads.now.facts.now in
     let made = makers_of g c.args._spans.now in
     c.loop-rows.invariant
     ∙ ap (map (always_among g)) (take_all c.loop-rows.rows-index c.args.makers.now c.loop-rows-test.false)

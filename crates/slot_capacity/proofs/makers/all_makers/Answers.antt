@@ -12,7 +12,7 @@ use Rattle.slot_capacity.proofs.makers.all_makers.Goals as goal
 
 pub loop-row-preserved : goal.loop-row-preserved
 loop-row-preserved c =
-    let g = c.args.facts.now in
+    let g = c.args.reads.now.facts.now in
     let spans = c.args.spans.now in
     let row = c.loop-row.row in
     let b = makes_own g row && can_come spans row in

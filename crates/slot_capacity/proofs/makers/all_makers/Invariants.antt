@@ -11,6 +11,6 @@ invariant-loop-row l =
     l.lists.items
     ≡ map
     (λ class. filter
-    (λ row. (class_at l.facts row == class) && (makes_own l.facts row && can_come l.spans row))
+    (λ row. (class_at l.reads.facts.now row == class) && (makes_own l.reads.facts.now row && can_come l.spans row))
     (range_with_len 0 l.row))
-    (range_with_len 0 (next_class l.facts.rows))
+    (range_with_len 0 (next_class l.reads.facts.now.rows))

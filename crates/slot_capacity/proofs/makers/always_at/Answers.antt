@@ -5,7 +5,7 @@ use Rattle.slot_capacity.proofs.makers.always_at.Goals as goal
 
 pub returns-in-Some : goal.returns-in-Some
 returns-in-Some c =
-    let g = c.args._facts.now in
+    let g = c.args.makers.now.frame.facts.now in
     let m = c.args.makers.now in
     let h = c.in-Some.ensures.lookup in
     c.as_slice.ensures
@@ -14,7 +14,7 @@ returns-in-Some c =
 
 pub returns-in-None : goal.returns-in-None
 returns-in-None c =
-    let g = c.args._facts.now in
+    let g = c.args.makers.now.frame.facts.now in
     let m = c.args.makers.now in
     let h = c.in-None.ensures.lookup in
     sym (ap (always_among g) (none-makes g m.spans.items m.rows.items m.always.items c.requires c.args.class

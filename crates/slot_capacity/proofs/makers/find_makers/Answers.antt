@@ -9,15 +9,15 @@ use Rattle.slot_capacity.proofs.makers.find_makers.Goals as goal
 
 pub returns-clause-makers : goal.returns-clause-makers
 returns-clause-makers c =
-    let g = c.args.facts.now in
-    let s = c.args.scope.now in
+    let g = c.args.frame.now.facts.now in
+    let s = c.args.frame.now.scope.now in
     record {
-      graph = c.requires.graph;
+      graph = c.requires.frame.graph;
       rows_are = c.in_ok-rows.ensures
-          ∙ ap (λ (spans : List (Option Span)). map (makers_of g spans) (classes_of g)) c.deref-2.ensures.value;
+          ∙ ap (λ (spans : List (Option Span)). map (makers_of g spans) (classes_of g)) c.deref.ensures.value;
       low = λ row own come.
-          coming-low g c.args.table.now (allocation_in s) c.args.k (first_cycle_in s) c.requires.graph row own
+          coming-low g c.args.frame.now.table.now (allocation_in s) c.args.frame.now.k (first_cycle_in s) c.requires.frame.graph row own
           (ap (λ (spans : List (Option Span)). can_come spans row) (sym c.in_ok-spans.ensures) ∙ come);
       always_are = c.in_ok-always.ensures
-          ∙ ap (λ (spans : List (Option Span)). map (always_of g spans) (classes_of g)) c.deref-5.ensures.value;
+          ∙ ap (λ (spans : List (Option Span)). map (always_of g spans) (classes_of g)) c.deref-3.ensures.value;
     }

@@ -6,4 +6,4 @@ use Rattle.slot_capacity.proofs.spans.spans.Given as goal
 
 abbrev pub invariant-loop-row : goal.invariant-loop-row
 invariant-loop-row l =
-    l.spans.items ≡ map (span_of (listed_in l.facts l.table l.k l.scope).launches) (range_with_len 0 l.row)
+    l.spans.items ≡ map (span_of (listed_in l.frame.facts.now l.frame.table.now l.frame.k l.frame.scope.now).launches) (range_with_len 0 l.row)
