@@ -120,8 +120,7 @@ fn extend_by_pool(alloc: Global, cnf: &mut Cnf, plan: &Plan) -> Result<(), NoMem
     }
 }
 
-/// Adds a part's variables and clauses. The launches have the first variables; `overwritten` is the variable before
-/// those of what is overwritten.
+/// Adds a part's variables and clauses.
 pub fn extend(alloc: Global, part: Part, cnf: &mut Cnf, plan: &Plan) -> Result<(), NoMemory>
     requires frame { IsFrame plan.now.frame }
     requires capacity { IsCapacityOf plan.now.frame plan.now.capacity.now }

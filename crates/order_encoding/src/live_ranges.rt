@@ -12,8 +12,7 @@ use cycle_encoding::{add_vars, overwritten_vars};
 use items::NoMemory;
 use std::alloc::Global;
 
-/// Adds the variables and clauses of registers by live ranges. The launches have the first variables; `overwritten` is
-/// the variable before those of what is overwritten.
+/// Adds the variables and clauses of registers by live ranges.
 pub fn extend_by_live_ranges(alloc: Global, cnf: &mut Cnf, plan: &Plan) -> Result<(), NoMemory>
     requires frame { IsFrame plan.now.frame }
     requires launches { length plan.now.launches.now ≤ plan.now.overwritten }

@@ -38,7 +38,6 @@ pub struct MemoryVars<'a> {
 }
 
 /// Adds for each load and store the clauses that it uses the memory that is held, and that a store leaves its own.
-/// `stores` is the variable before those of cycles with a store.
 fn add_uses(cnf: &mut Cnf, vars: &MemoryVars) -> Result<(), NoMemory>
     requires held { AreHeldOver vars.now }
     requires launches { length vars.now.launches.now ≤ vars.now.held.first }

@@ -27,8 +27,7 @@ use std::alloc::Global;
 
 // ---- what is overwritten
 
-/// Adds for each set that is pinned to an input's register the clauses of what launches to it overwrite. `first` is the
-/// variable before those of what is overwritten.
+/// Adds for each set that is pinned to an input's register the clauses of what launches to it overwrite.
 fn add_overwritten(cnf: &mut Cnf, plan: &Plan) -> Result<(), NoMemory>
     requires rows { length plan.now.frame.facts.now.rows < 2 ^ 30 }
     requires cycles { plan.now.frame.k ≤ most_cycles }
@@ -321,9 +320,8 @@ fn add_over_load(cnf: &mut Cnf, plan: &Plan, first: u32, made: Made) -> Result<(
 
 // ---- all of them
 
-/// Adds the variables and clauses of pins. The launches have the first variables; `overwritten` is the variable before
-/// those of what is overwritten, `branches` the one before those of cycles by which the branch has come, and `stores` the
-/// one before those of cycles with a store.
+/// Adds the variables and clauses of pins. `branches` is the variable before those of cycles by which the branch has
+/// come, and `stores` the one before those of cycles with a store.
 pub fn extend_by_pins(
     alloc: Global,
     cnf: &mut Cnf,
