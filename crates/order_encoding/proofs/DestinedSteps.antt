@@ -1,6 +1,7 @@
 -- Sums over destinations and over pinned sets.
-use Rattle.std.proofs.Common.{◌≡◌, ℕ, ◌+◌, ◌*◌, ◌&&◌, true, false, not, cond, List, [], ◌∷◌, length, refl, sym, ap, ◌∙◌, arith}
-use Rattle.std.specs.Prelude.{is_some}
+use Rattle.std.proofs.Common.{◌≡◌, ℕ, ◌+◌, ◌*◌, ◌&&◌, Bool, Option, Some, None, true, false, not, cond, List, [], ◌∷◌, length, refl, sym, ap, ◌∙◌, arith}
+use Rattle.std.specs.Prelude.{is_some, ◌||◌}
+use Rattle.std.specs.Option.{option_map_or}
 use Rattle.std.specs.List.{sum_by}
 use Rattle.std.proofs.lemmas.List.Sums.{sum_by-cons, length-filter}
 use Rattle.cnf_core.specs.Counter.{at_most_size}
@@ -12,9 +13,11 @@ use Rattle.cycle_encoding.specs.Counts.{one_if}
 use Rattle.cycle_encoding.specs.CycleFormula.{Scope}
 use Rattle.cycle_encoding.specs.Variables.{pinned_sets, overwriting_sets, is_overwriting}
 use Rattle.cycle_encoding.specs.Counts.{row_destinations, row_is}
-use Rattle.schedule_meaning.specs.Launches.{is_load}
+use Rattle.machine_table.specs.declared.tables.InstrKind.{InstrKind}
+use Rattle.schedule_meaning.specs.Launches.{instr_at, is_load, is_store}
+use Rattle.cycle_encoding.specs.Narrow.{accesses}
 use Rattle.order_encoding.specs.PinFamilies.{has_own_input, unmet_sets}
-use Rattle.order_encoding.specs.OrderCounts.{goes_count, late_count, over_load_count, overwrites_at, pins_size}
+use Rattle.order_encoding.specs.OrderCounts.{goes_count, late_count, over_load_count, overwrites_at, pins_size, row_uses}
 use Rattle.order_encoding.specs.OrderSteps.{set_size}
 use Rattle.cycle_encoding.proofs.Totals.{sum-const}
 use Rattle.cycle_encoding.proofs.RowPlaces.{sum_kept}
@@ -55,3 +58,20 @@ pub no_load_overs : (g : LaunchGraph) (a : Allocation) (row : ℕ) → row_is g 
 no_load_overs g a row e =
     (let z : 0 ≡ length (row_destinations g a row) * 0 = omega arith in z) ∙ sym (sum-const 0 (row_destinations g a row))
     ∙ ap (λ b. sum_by (λ to. one_if (b && overwrites_at g to)) (row_destinations g a row)) (sym e)
+
+-- the clauses which say what memory a launch uses
+by_kind : (o : Option InstrKind) → option_map_or accesses o false ≡ (option_map_or is_load o false || option_map_or is_store o false)
+by_kind (Some i) = refl
+by_kind None = refl
+
+pub uses_are : (g : LaunchGraph) (a : Allocation) (row n m : ℕ) (b d : Bool) → n ≡ sum_by (λ (to : To). one_if b) (row_destinations g a row) → b ≡ row_is g accesses row
+    → m ≡ sum_by (λ (to : To). one_if d) (row_destinations g a row) → d ≡ row_is g is_store row
+    → n + m * 2 ≡ sum_by (λ (to : To). row_uses g row) (row_destinations g a row)
+uses_are g a row n m b d en eb em ed =
+    let places = length (row_destinations g a row) in
+    let n_is = en ∙ sum_same g a row (one_if b) ∙ ap (λ x. places * one_if x) (eb ∙ by_kind (instr_at g row)) in
+    let m_is = em ∙ sum_same g a row (one_if d) ∙ ap (λ x. places * one_if x) ed in
+    let one = one_if (row_is g is_load row || row_is g is_store row) in
+    let two = one_if (row_is g is_store row) in
+    let sum : (x y z : ℕ) → x * y + x * z * 2 ≡ x * (y + z * 2) = λ x y z. omega arith in
+    ap (λ x. x + m * 2) n_is ∙ ap (λ x. places * one + x * 2) m_is ∙ sum places one two ∙ sym (sum_same g a row (row_uses g row))

@@ -16,7 +16,7 @@ use Rattle.graph_meaning.specs.declared.graphs.LaunchGraph.{LaunchGraph}
 use Rattle.schedule_meaning.specs.Launches.{launches, is_branch}
 use Rattle.schedule_meaning.specs.declared.schedules.Launch.{Launch}
 use Rattle.order_encoding.specs.OrderVariables.{Held, all_held, all_taken}
-use Rattle.order_encoding.specs.OrderFamilies.{branches_by, entry_clauses, memory_clauses, kept_clauses, held_groups, store_groups, last_clauses, comes_after}
+use Rattle.order_encoding.specs.OrderFamilies.{branches_by, entry_clauses, memory_clauses, kept_clauses, held_groups, store_groups, last_memory_clauses, comes_after}
 use Rattle.order_encoding.specs.WholeFormula.{with_memory, formula_with_guard, formula_with_registers}
 use Rattle.cycle_encoding.specs.Shapes.{numbered, vars_of, implied, when, counters, counters_vars, counters_size}
 use Rattle.cycle_encoding.specs.Steps.{with_clauses, with_counters}
@@ -137,7 +137,7 @@ module _ (g : LaunchGraph) (xs : List (ℕ × Launch)) (f : Formula) (k : ℕ) w
           ++ memory_clauses g xs ms ws
           ++ kept_clauses g j xs ms ws
           ++ counters n 1 (held_groups j ms ++ store_groups g k xs)
-          ++ last_clauses g j ms);
+          ++ last_memory_clauses g j ms);
     }
 
   pub memory-by-numbers : (j first stores n : ℕ) → j ≡ k → first ≡ f.vars → stores ≡ f.vars + length (all_held g j) → n ≡ f.vars + length (all_held g j) + j → by_numbers j first stores n ≡ with_memory g k xs f

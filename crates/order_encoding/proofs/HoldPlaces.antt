@@ -1,9 +1,8 @@
 -- The variables of what is held, by their places: by slot, then by start, then by cycle.
 use Rattle.std.proofs.Common.{◌≡◌, ℕ, zero, suc, ◌+◌, ◌-◌, ◌*◌, ◌<◌, ◌≤◌, Bool, true, false, cond, List, ◌∷◌, ◌++◌, [], length, map, refl, sym, ap, ◌∙◌, subst, arith, inl, inr, ◌⊎◌}
 use Rattle.std.specs.Prelude.{◌==◌, ◌&&◌}
-use Rattle.std.specs.List.{All, filter, flat_map, range_with_len, sum_by}
+use Rattle.std.specs.List.{All, filter, flat_map, range_with_len}
 use Rattle.std.proofs.lemmas.Bool.{cases_eq, cases_lt, eq-eqb, ne_eqb, and_from, and_left, and_right}
-use Rattle.std.proofs.lemmas.List.{append-nil}
 use Rattle.std.proofs.lemmas.List.Elements.{All-head}
 use Rattle.std.proofs.lemmas.List.Sums.{sum_by-le}
 use Rattle.std.proofs.lemmas.List.FromFn.{length-map-range_with_len, length-range_with_len}
@@ -22,7 +21,7 @@ use Rattle.cycle_encoding.proofs.Walk.{vars-append}
 use Rattle.order_encoding.specs.LiveVariables.{Hold, all_holds, slot_holds, start_holds}
 use Rattle.order_encoding.specs.LiveFamilies.{is_hold_at}
 use Rattle.order_encoding.specs.OrderCounts.{holds_count}
-use Rattle.order_encoding.specs.OrderSteps.{slot_lits, starts_before}
+use Rattle.order_encoding.specs.OrderSteps.{starts_before}
 use Rattle.order_encoding.proofs.LiveListing.{hold_at}
 
 -- ---- how many

@@ -46,3 +46,4 @@ pub mod HoldSteps
 pub mod CountersUpTo
 pub mod LiveExtended
 mod PartLoop
+mod Begins

@@ -1,27 +1,26 @@
 -- What the families of registers by live ranges say holds of the launches of a schedule that fits, with what is needed
 -- and held there.
-use Rattle.std.proofs.Common.{◌≡◌, ℕ, suc, ◌+◌, ◌-◌, ◌<◌, ◌≤◌, Bool, true, false, not, cond, List, length, get_or, refl, sym, ap, ◌∙◌, subst, arith, inl, inr, ◌⊎◌, Option, Some, None}
-use Rattle.std.specs.Prelude.{◌&&◌, ◌||◌, ◌==◌, nat_le, is_some, IsTrue, Any, Contains, slice_get, option_and_then}
+use Rattle.std.proofs.Common.{◌≡◌, ℕ, ◌+◌, ◌-◌, ◌<◌, ◌≤◌, Bool, true, false, not, cond, List, length, get_or, refl, sym, ap, ◌∙◌, subst, arith, inl, inr, Option, Some, None}
+use Rattle.std.specs.Prelude.{◌&&◌, ◌==◌, nat_le, is_some, IsTrue, Contains, slice_get, option_and_then}
 use Rattle.std.specs.Option.{option_map_or}
-use Rattle.std.specs.List.{All, filter, list_any, count_by, range_with_len}
+use Rattle.std.specs.List.{filter, list_any, count_by, range_with_len}
 use Rattle.std.proofs.lemmas.Bool.{false≢true, cases_Bool, cases_eq, eqb-true, eqb-false, eq-eqb, le-leb, and_parts, and_from, or_left, or_right, not-true, not_from_false}
 use Rattle.std.proofs.lemmas.Option.{slice_get-get_or}
 use Rattle.std.proofs.lemmas.List.Sums.{sum_by-le-sum_by}
-use Rattle.std.proofs.lemmas.List.Elements.{All-contains, Contains-get_or}
+use Rattle.std.proofs.lemmas.List.Elements.{All-contains}
 use Rattle.machine_table.specs.declared.tables.Table.{Table}
 use Rattle.graph_meaning.specs.Graphs.{IsPin, is_input_register, is_memory_name, is_zero_class}
 use Rattle.graph_meaning.specs.WellFormed.{IsLaunchGraph}
 use Rattle.graph_meaning.specs.declared.graphs.InputClass.{InputClass}
 use Rattle.graph_meaning.specs.declared.graphs.LaunchGraph.{LaunchGraph}
 use Rattle.graph_meaning.specs.declared.graphs.SetClass.{SetClass}
-use Rattle.schedule_meaning.specs.Launches.{class_at, goes_to, is_free, operands_at, pin_of, takes_pool, writes_pin, Gives, HasInput, IsUnwritten, IsZero}
+use Rattle.schedule_meaning.specs.Launches.{class_at, goes_to, is_free, operands_at, pin_of, writes_pin, HasInput, IsUnwritten}
 use Rattle.schedule_meaning.specs.Lifetimes.{holds, is_needed, is_operand_of, is_read_from, is_unpinned_of, is_wanted, reads_class}
 use Rattle.schedule_meaning.specs.Readers.{input_where, is_intact}
 use Rattle.schedule_meaning.specs.Fits.{HasRoom, IsInSomeRegister, IsReached, IsWhereWanted, AreReached}
 use Rattle.schedule_meaning.specs.declared.schedules.Allocation.TheVariants.{Live}
 use Rattle.schedule_meaning.specs.declared.schedules.To.TheVariants.{Set}
 use Rattle.schedule_meaning.specs.declared.schedules.Launch.{Launch}
-use Rattle.schedule_meaning.specs.declared.schedules.Operand.{Operand}
 use Rattle.schedule_meaning.proofs.Inputs.{has_input_is}
 use Rattle.schedule_meaning.proofs.LiveRanges.{holds_own, holds_later, needed_before}
 use Rattle.schedule_meaning.proofs.Pins.{pinned_from, writes_from, goes_from}
@@ -34,9 +33,9 @@ use Rattle.cycle_encoding.proofs.Counting.{count-one, count-none, count-by-place
 use Rattle.cycle_encoding.proofs.Lists.{over-in}
 use Rattle.cycle_encoding.proofs.Members.{twice, filter-in, filter-out, filter-once, range-in, range-out, All-from_members}
 use Rattle.cycle_encoding.proofs.PinnedTests.{pin-is, at-from, register-from}
-use Rattle.cycle_encoding.proofs.Tests.{any_from, some_of, some_in, zero-from}
+use Rattle.cycle_encoding.proofs.Tests.{any_from, some_in, zero-from}
 use Rattle.order_encoding.specs.LiveVariables.{Need, Hold, all_holds, all_needs, is_pooled, pooled_classes}
-use Rattle.order_encoding.specs.LiveFamilies.{is_need_at, is_hold_at, is_pooled_operand, is_pooled_target}
+use Rattle.order_encoding.specs.LiveFamilies.{is_need_at, is_hold_at, is_pooled_operand}
 use Rattle.order_encoding.specs.OrderSteps.{need_at}
 use Rattle.order_encoding.proofs.LiveListing.{hold_at, needs-in, needs-out, pooled-in, pooled-by, holds-in, holds-once}
 use Rattle.order_encoding.proofs.LiveSays.{HoldsAt, HoldsOn, HoldsOwn, IsLastNeeded, NeedsOf, SaysLive, WasNeeded}

@@ -1,6 +1,6 @@
 -- The formula that comes of the steps of registers by live ranges, and the room that each step takes.
-use Rattle.std.proofs.Common.{◌≡◌, ℕ, ◌+◌, ◌<◌, ◌≤◌, ◌^◌, ◌==◌, List, ◌++◌, length, refl, sym, ap, ◌∙◌, arith, length-append, append_assoc}
-use Rattle.cycle_encoding.specs.Limits.{most_vars, most_clauses}
+use Rattle.std.proofs.Common.{◌≡◌, ℕ, ◌+◌, ◌<◌, ◌≤◌, ◌^◌, ◌==◌, List, ◌++◌, length, refl, ap, ◌∙◌, arith, length-append, append_assoc}
+use Rattle.cycle_encoding.specs.Limits.{most_clauses}
 use Rattle.cnf_core.specs.declared.literal.Lit.{Lit}
 use Rattle.cnf_core.specs.Formula.{Formula}
 use Rattle.cnf_core.specs.Counter.{at_most_clauses, at_most_size}
@@ -13,7 +13,7 @@ use Rattle.cycle_encoding.specs.Variables.{Overwritten}
 use Rattle.cycle_encoding.proofs.Adding.{added}
 use Rattle.cycle_encoding.proofs.Rows.{counters-size, formula}
 use Rattle.order_encoding.specs.LiveVariables.{Hold, Need, all_holds, all_needs, pooled_classes}
-use Rattle.order_encoding.specs.LiveFamilies.{need_clauses, earlier_clauses, last_clauses, hold_clauses, hold_groups}
+use Rattle.order_encoding.specs.LiveFamilies.{need_clauses, earlier_clauses, last_need_clauses, hold_clauses, hold_groups}
 use Rattle.order_encoding.specs.WholeFormula.{formula_with_live_ranges}
 
 -- what is held in a cycle
@@ -110,7 +110,7 @@ module _ (g : LaunchGraph) (k : ℕ) (xs : List (ℕ × Launch)) (f : Formula) (
   abbrev pub live_by : ℕ → ℕ → ℕ → Formula
   live_by first second n = record {
     vars = n + counters_vars (length g.pool) (hold_groups k (hs second));
-    clauses = f.clauses ++ (need_clauses g xs (ns k first) ++ earlier_clauses (ns k first) ++ last_clauses g k xs (ns k first) vs ++ hold_clauses g k xs (ns k first) (hs second) ++ counters n (length g.pool) (hold_groups k (hs second)));
+    clauses = f.clauses ++ (need_clauses g xs (ns k first) ++ earlier_clauses (ns k first) ++ last_need_clauses g k xs (ns k first) vs ++ hold_clauses g k xs (ns k first) (hs second) ++ counters n (length g.pool) (hold_groups k (hs second)));
   }
 
   pub live-by-numbers : (first second n : ℕ) → first ≡ f.vars → second ≡ f.vars + length (all_needs k (pooled_classes g xs)) → n ≡ f.vars + length (all_needs k (pooled_classes g xs)) + length (all_holds table k) → live_by first second n ≡ formula_with_live_ranges g k xs f table vs
@@ -121,7 +121,7 @@ module _ (g : LaunchGraph) (k : ℕ) (xs : List (ℕ × Launch)) (f : Formula) (
   abbrev pub live_of : ℕ → List (ℕ × Overwritten) → ℕ → ℕ → ℕ → Formula
   live_of m us first second n = record {
     vars = n + counters_vars (length g.pool) (hold_groups k (hs second));
-    clauses = f.clauses ++ (need_clauses g xs (ns m first) ++ earlier_clauses (ns m first) ++ last_clauses g m xs (ns m first) us ++ hold_clauses g m xs (ns m first) (numbered second (all_holds table m)) ++ counters n (length g.pool) (hold_groups k (hs second)));
+    clauses = f.clauses ++ (need_clauses g xs (ns m first) ++ earlier_clauses (ns m first) ++ last_need_clauses g m xs (ns m first) us ++ hold_clauses g m xs (ns m first) (numbered second (all_holds table m)) ++ counters n (length g.pool) (hold_groups k (hs second)));
   }
 
   pub live-by-steps : (m : ℕ) (us : List (ℕ × Overwritten)) (first second n : ℕ) → m ≡ k → us ≡ vs → first ≡ f.vars → second ≡ f.vars + length (all_needs m (pooled_classes g xs)) → n ≡ f.vars + length (all_needs m (pooled_classes g xs)) + length (all_holds table m) → live_of m us first second n ≡ formula_with_live_ranges g k xs f table vs

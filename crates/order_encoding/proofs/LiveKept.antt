@@ -1,7 +1,7 @@
 -- Without some launches the others hold no more registers.
-use Rattle.std.proofs.Common.{◌≡◌, ℕ, ◌<◌, ◌≤◌, Bool, true, false, not, List, refl, sym, ◌∙◌, arith, inl, inr, None}
-use Rattle.std.specs.Prelude.{◌&&◌, ◌||◌, nat_le, is_some, Contains}
-use Rattle.std.specs.List.{All, count_by, filter, list_any}
+use Rattle.std.proofs.Common.{◌≡◌, ℕ, ◌≤◌, Bool, true, false, not, List, refl, sym, ◌∙◌, arith, inl, inr, None}
+use Rattle.std.specs.Prelude.{◌&&◌, nat_le, is_some}
+use Rattle.std.specs.List.{count_by, filter, list_any}
 use Rattle.std.proofs.lemmas.Bool.{false≢true, cases_Bool, and_parts, and_from, or_cases, or_left, or_right, not-true, not_from_false}
 use Rattle.std.proofs.lemmas.List.Elements.{All-filter}
 use Rattle.graph_meaning.specs.Graphs.{is_zero_class}

@@ -1,6 +1,6 @@
 -- What the families of registers by live ranges, and that of loads which overwrite, say of the launches and the other
 -- things whose variables are true.
-use Rattle.std.proofs.Common.{◌≡◌, ℕ, ◌+◌, ◌-◌, Bool, true, false, not, List, [], ◌∷◌, ◌++◌, get_or, map, sym, ap, ◌∙◌}
+use Rattle.std.proofs.Common.{◌≡◌, ℕ, ◌+◌, ◌-◌, Bool, true, not, List, [], ◌∷◌, ◌++◌, get_or, map, sym, ap, ◌∙◌}
 use Rattle.std.specs.Prelude.{◌==◌, ◌&&◌, ◌||◌}
 use Rattle.std.specs.List.{All, filter, list_any, range_with_len}
 use Rattle.std.proofs.lemmas.List.Elements.{All-weaker}
@@ -11,7 +11,7 @@ use Rattle.graph_meaning.specs.declared.graphs.SetClass.{SetClass}
 use Rattle.schedule_meaning.specs.Launches.{class_at, is_load, launches, operands_at, overwrites, takes_pool}
 use Rattle.schedule_meaning.specs.declared.schedules.Launch.{Launch}
 use Rattle.schedule_meaning.specs.declared.schedules.Operand.{Operand}
-use Rattle.cycle_encoding.specs.Shapes.{implied, negated, shown, vars_of}
+use Rattle.cycle_encoding.specs.Shapes.{negated, shown, vars_of}
 use Rattle.cycle_encoding.specs.Families.{is_lost}
 use Rattle.cycle_encoding.specs.Variables.{Overwritten}
 use Rattle.cycle_encoding.proofs.Shown.{add, any_of, first, rest, one, when-out, when-in, implied-out, implied-in, map-out, map-in}
@@ -19,7 +19,7 @@ use Rattle.cycle_encoding.proofs.ShownTests.{some-out, some-in}
 use Rattle.cycle_encoding.proofs.Tests.{All-from_filter, All-to_filter}
 use Rattle.cycle_encoding.proofs.Unshown.{hidden, negated-of, either-of}
 use Rattle.order_encoding.specs.LiveVariables.{Need, Hold}
-use Rattle.order_encoding.specs.LiveFamilies.{is_need_at, is_hold_at, is_pooled_operand, is_pooled_target, operand_needs, need_clauses, was_needed, earlier_clauses, target_needs, last_clauses, holds_while, holds_register, hold_clauses}
+use Rattle.order_encoding.specs.LiveFamilies.{is_need_at, is_hold_at, is_pooled_operand, is_pooled_target, operand_needs, need_clauses, was_needed, earlier_clauses, target_needs, last_need_clauses, holds_while, holds_register, hold_clauses}
 use Rattle.order_encoding.specs.PinFamilies.{loads_alone, load_clauses}
 
 -- some negated variable of the first list, or some of the second
@@ -92,13 +92,13 @@ module _ (g : LaunchGraph) (k : ℕ) (xs : List (ℕ × Launch)) where
       abbrev IsLast : SetClass → Type 0
       IsLast s = (list_any (is_need_at s.class (k - 1)) (shown v ns) || list_any (is_lost g s.class k) (hidden v vs)) ≡ true
 
-      pub last-out : Satisfies v (last_clauses g k xs ns vs) → All (IsLastNeeded (shown v ns) (hidden v vs)) g.sets
+      pub last-out : Satisfies v (last_need_clauses g k xs ns vs) → All (IsLastNeeded (shown v ns) (hidden v vs)) g.sets
       last-out h =
           All-from_filter (is_pooled_target g xs) IsLast g.sets
           (All-weaker (λ s. clause_true v (target_needs g k ns vs s) ≡ true) IsLast (λ s q. sym (last_is s) ∙ q) (filter (is_pooled_target g xs) g.sets)
           (map-out v (target_needs g k ns vs) (filter (is_pooled_target g xs) g.sets) h))
 
-      pub last-in : All (IsLastNeeded (shown v ns) (hidden v vs)) g.sets → Satisfies v (last_clauses g k xs ns vs)
+      pub last-in : All (IsLastNeeded (shown v ns) (hidden v vs)) g.sets → Satisfies v (last_need_clauses g k xs ns vs)
       last-in h =
           map-in v (target_needs g k ns vs) (filter (is_pooled_target g xs) g.sets)
           (All-weaker IsLast (λ s. clause_true v (target_needs g k ns vs s) ≡ true) (λ s q. last_is s ∙ q) (filter (is_pooled_target g xs) g.sets)

@@ -1,13 +1,12 @@
 -- The counts of registers by live ranges.
-use Rattle.std.proofs.Common.{◌≡◌, ℕ, zero, suc, ◌+◌, ◌-◌, ◌*◌, ◌<◌, ◌≤◌, Bool, true, false, not, cond, List, [], ◌∷◌, ◌++◌, length, map, refl, sym, ap, ◌∙◌, arith, inl, inr, Option, Some, None, length-append}
-use Rattle.std.specs.Prelude.{◌&&◌, ◌||◌, ◌==◌, nat_lt, Contains}
+use Rattle.std.proofs.Common.{◌≡◌, ℕ, zero, suc, ◌+◌, ◌-◌, ◌*◌, ◌<◌, ◌≤◌, Bool, true, false, not, cond, List, [], ◌∷◌, length, map, refl, sym, ap, ◌∙◌, arith, inl, inr, Option, Some, None}
+use Rattle.std.specs.Prelude.{◌&&◌, ◌||◌, ◌==◌, nat_lt}
 use Rattle.std.specs.Option.{option_map_or}
-use Rattle.std.specs.List.{count_by, filter, flat_map, list_any, range_with_len, sum_by}
+use Rattle.std.specs.List.{count_by, filter, list_any, range_with_len, sum_by}
 use Rattle.std.proofs.lemmas.Bool.{cases_lt, lt-ltb, le-ltb, ne_eqb}
 use Rattle.std.proofs.lemmas.List.Sums.{length-filter, sum_by-cons}
 use Rattle.std.proofs.lemmas.List.FromFn.{length-map-range_with_len, length-range_with_len}
 use Rattle.cnf_core.specs.declared.literal.Lit.{Lit}
-use Rattle.cnf_core.specs.Counter.{at_most_clauses, at_most_size}
 use Rattle.machine_table.specs.declared.tables.InstrKind.{InstrKind}
 use Rattle.machine_table.specs.declared.tables.Table.{Table}
 use Rattle.machine_table.specs.declared.tables.Use.{Use}
@@ -23,7 +22,7 @@ use Rattle.schedule_meaning.proofs.LiveRanges.{same_tests}
 use Rattle.cycle_encoding.specs.Counts.{cycles_of, one_if, row_count, row_destinations, row_is, sum_destined}
 use Rattle.cycle_encoding.specs.CycleFormula.{Scope, allocation_in, first_cycle_in}
 use Rattle.cycle_encoding.specs.Families.{is_free, is_made_target}
-use Rattle.cycle_encoding.specs.Shapes.{implied, negated, numbered, vars_of, when}
+use Rattle.cycle_encoding.specs.Shapes.{numbered, vars_of, when}
 use Rattle.cycle_encoding.specs.Variables.{classes_of, destinations, launches_from, Overwritten, row_launches, row_numbers, set_numbers, slots_of, takes, use_launches}
 use Rattle.cycle_encoding.proofs.Counting.{sum-same}
 use Rattle.cycle_encoding.proofs.Launched.{same-in, size-map}
@@ -32,7 +31,7 @@ use Rattle.cycle_encoding.proofs.PinnedTotals.{by_row, sum-destined, times_instr
 use Rattle.cycle_encoding.proofs.Tallies.{sum_more}
 use Rattle.cycle_encoding.proofs.Totals.{size-flat, size-implied, size-ones, sum-const, sum-flat, sum-map, sum-times}
 use Rattle.order_encoding.specs.LiveVariables.{Hold, Need, all_holds, all_needs, is_pooled, pooled_classes, pools}
-use Rattle.order_encoding.specs.LiveFamilies.{is_hold_at, is_need_at, is_pooled_operand, is_pooled_target, operand_needs, need_clauses, was_needed, earlier_clauses, target_needs, last_clauses, holds_while, holds_register, hold_clauses}
+use Rattle.order_encoding.specs.LiveFamilies.{is_hold_at, is_need_at, is_pooled_operand, is_pooled_target, operand_needs, need_clauses, was_needed, earlier_clauses, target_needs, last_need_clauses, holds_while, holds_register, hold_clauses}
 use Rattle.order_encoding.specs.OrderCounts.{is_pooled_in, is_pooled_operand_in, pooled_count, row_gives, row_holds}
 use Rattle.order_encoding.specs.OrderSteps.{class_needs, need_at, slot_lits}
 use Rattle.order_encoding.proofs.HoldPlaces.{is-hold}
@@ -175,7 +174,7 @@ module _ (g : LaunchGraph) (table : Table) (k : ℕ) (s : Scope) where
       ∙ sum-same (λ t. length (was_needed ns (need_at c t))) (λ t. one_if (not (t == 0))) (range_with_len 0 k) (λ t. size_one (not (t == 0)) (vars_of (is_need_at c (t - 1)) ns))
       ∙ later_cycles k)
 
-  pub last-size : (ns : List (ℕ × Need)) (vs : List (ℕ × Overwritten)) → length (last_clauses g k xs ns vs) ≡ count_by (λ t. is_made_target g t && is_pooled_in g table k s t.class) g.sets
+  pub last-size : (ns : List (ℕ × Need)) (vs : List (ℕ × Overwritten)) → length (last_need_clauses g k xs ns vs) ≡ count_by (λ t. is_made_target g t && is_pooled_in g table k s t.class) g.sets
   last-size ns vs =
       size-map (target_needs g k ns vs) (filter (is_pooled_target g xs) g.sets)
       ∙ length-filter (is_pooled_target g xs) g.sets

@@ -1,9 +1,9 @@
 -- Launches of which the families of registers by live ranges hold keep at most as many registers as the pool has.
-use Rattle.std.proofs.Common.{◌≡◌, ℕ, suc, zero, ◌+◌, ◌-◌, ◌<◌, ◌≤◌, Bool, true, false, not, cond, List, length, get_or, refl, sym, ap, ◌∙◌, subst, arith, inl, inr, ◌⊎◌, Option, Some, None}
-use Rattle.std.specs.Prelude.{◌&&◌, ◌||◌, ◌==◌, nat_le, is_some, IsTrue, Contains, slice_get}
+use Rattle.std.proofs.Common.{◌≡◌, ℕ, suc, zero, ◌+◌, ◌-◌, ◌<◌, ◌≤◌, Bool, true, false, not, cond, List, length, get_or, refl, sym, ap, ◌∙◌, subst, arith, inl, inr, Option, Some, None}
+use Rattle.std.specs.Prelude.{◌&&◌, ◌==◌, nat_le, is_some, IsTrue, Contains, slice_get}
 use Rattle.std.specs.Option.{option_map_or}
 use Rattle.std.specs.List.{All, AllPairs, list_any, count_by, range_with_len}
-use Rattle.std.proofs.lemmas.Bool.{false≢true, cases_Bool, eqb-true, eq-eqb, ne_eqb, leb-true, and_parts, and_from, or_cases, not-true, not_from_false}
+use Rattle.std.proofs.lemmas.Bool.{false≢true, cases_Bool, eqb-true, ne_eqb, leb-true, and_parts, and_from, or_cases, not-true, not_from_false}
 use Rattle.std.proofs.lemmas.List.Sums.{sum_by-le-sum_by}
 use Rattle.std.proofs.lemmas.List.Elements.{All-contains, Contains-get_or}
 use Rattle.graph_meaning.specs.Graphs.{HaveOwnPins, is_input_register, is_memory_name, is_zero_class}
@@ -17,7 +17,6 @@ use Rattle.schedule_meaning.specs.declared.schedules.Allocation.{Allocation}
 use Rattle.schedule_meaning.specs.declared.schedules.Allocation.TheVariants.{Block, Live}
 use Rattle.schedule_meaning.specs.declared.schedules.To.TheVariants.{Set}
 use Rattle.schedule_meaning.specs.declared.schedules.Launch.{Launch}
-use Rattle.schedule_meaning.specs.declared.schedules.Operand.{Operand}
 use Rattle.schedule_meaning.proofs.Inputs.{has_input_is}
 use Rattle.schedule_meaning.proofs.LiveRanges.{holds_takes, holds_cases}
 use Rattle.schedule_meaning.proofs.Pins.{pinned_from, written_from, pin_from, from_goes, same_pin}
@@ -29,7 +28,7 @@ use Rattle.cycle_encoding.proofs.Members.{range-in}
 use Rattle.cycle_encoding.proofs.PinnedTests.{safe-is, at-is, register-from}
 use Rattle.cycle_encoding.proofs.Tests.{any_from, some_of}
 use Rattle.order_encoding.specs.LiveVariables.{Need, Hold, is_pooled}
-use Rattle.order_encoding.specs.LiveFamilies.{is_need_at, is_hold_at, is_pooled_operand, is_pooled_target}
+use Rattle.order_encoding.specs.LiveFamilies.{is_need_at, is_hold_at, is_pooled_operand}
 use Rattle.order_encoding.proofs.LiveSays.{HoldsAt, HoldsOn, HoldsOwn, IsAlone, IsLastNeeded, NeedsOf, SaysLive, WasNeeded}
 
 module _ (g : LaunchGraph) (k : ℕ) (xs : List (ℕ × Launch)) (S : List Launch) (N M : List Need) (H : List Hold) (X V : List Overwritten) (says : SaysLive g k xs S N M H X)

@@ -1,6 +1,6 @@
 -- Steps of the counts of registers by live ranges.
-use Rattle.std.proofs.Common.{◌≡◌, ℕ, zero, suc, ◌+◌, ◌-◌, ◌*◌, ◌<◌, ◌≤◌, Bool, true, false, cond, List, ◌∷◌, ◌++◌, [], length, map, take, get_or, Option, Some, None, refl, sym, ap, ◌∙◌, subst, arith, inl, inr}
-use Rattle.std.specs.Prelude.{◌&&◌, ◌||◌, ◌==◌, nat_le, nat_lt, option_and_then, option_map, slice_get}
+use Rattle.std.proofs.Common.{◌≡◌, ℕ, zero, suc, ◌+◌, ◌-◌, ◌*◌, ◌<◌, ◌≤◌, Bool, true, false, cond, List, ◌∷◌, [], length, map, take, get_or, Option, Some, None, refl, sym, ap, ◌∙◌, arith, inl, inr}
+use Rattle.std.specs.Prelude.{◌&&◌, ◌==◌, nat_le, nat_lt, option_and_then, option_map, slice_get}
 use Rattle.std.specs.Option.{option_map_or}
 use Rattle.std.specs.List.{count_by, filter, list_any, range_with_len, sum_by}
 use Rattle.std.proofs.lemmas.Bool.{cases_Bool}
@@ -20,8 +20,7 @@ use Rattle.schedule_meaning.specs.Launches.{class_at, gives_word, instr_at}
 use Rattle.cycle_encoding.specs.Counts.{cycles_of, one_if, row_count, row_is, row_use}
 use Rattle.cycle_encoding.specs.CycleFormula.{Scope, allocation_in, first_cycle_in}
 use Rattle.cycle_encoding.specs.Facts.{class_marked, may_use}
-use Rattle.cycle_encoding.specs.Variables.{classes_of, launches_from, row_numbers, slots_of}
-use Rattle.cycle_encoding.specs.Shapes.{numbered}
+use Rattle.cycle_encoding.specs.Variables.{classes_of, launches_from, slots_of}
 use Rattle.cycle_encoding.proofs.Marking.{mark_step}
 use Rattle.order_encoding.specs.OrderCounts.{is_pooled_in, row_gives, row_holds}
 use Rattle.order_encoding.proofs.LiveListing.{pooled-below}

@@ -1,13 +1,13 @@
 -- Clauses of what is needed, one operand, class and target more at a time.
-use Rattle.std.proofs.Common.{◌≡◌, ℕ, zero, suc, ◌+◌, ◌-◌, ◌<◌, ◌≤◌, ◌^◌, Bool, true, false, cond, List, ◌∷◌, ◌++◌, [], length, map, take, drop, get_or, Option, Some, None, refl, sym, ap, ◌∙◌, subst, arith, inl, inr, length-append}
+use Rattle.std.proofs.Common.{◌≡◌, ℕ, zero, suc, ◌+◌, ◌-◌, ◌<◌, ◌≤◌, ◌^◌, Bool, true, false, cond, List, ◌∷◌, ◌++◌, [], length, map, take, drop, get_or, refl, sym, ap, ◌∙◌, subst, arith, length-append}
 use Rattle.std.specs.Prelude.{◌==◌, ◌&&◌, ◌||◌, not, Contains, slice_get}
-use Rattle.std.specs.List.{All, filter, flat_map, list_any, range_with_len}
+use Rattle.std.specs.List.{filter, flat_map, list_any, range_with_len}
 use Rattle.std.proofs.lemmas.Bool.{eq-eqb, ne_eqb, and_from, and_left, and_right}
-use Rattle.std.proofs.lemmas.List.{append-nil, take_more, take-append-drop, take_all, map-append}
+use Rattle.std.proofs.lemmas.List.{take_more, take-append-drop, take_all, map-append}
 use Rattle.std.proofs.lemmas.List.Elements.{filter-append, Contains-get_or}
 use Rattle.std.proofs.lemmas.List.Concat.{flat_map-append}
 use Rattle.cnf_core.specs.declared.literal.Lit.{Lit}
-use Rattle.cnf_core.specs.Formula.{Formula, IsLitOf}
+use Rattle.cnf_core.specs.Formula.{Formula}
 use Rattle.graph_meaning.specs.declared.graphs.LaunchGraph.{LaunchGraph}
 use Rattle.schedule_meaning.specs.Launches.{class_at, takes_pool}
 use Rattle.schedule_meaning.specs.declared.schedules.Launch.{Launch}
@@ -24,7 +24,7 @@ use Rattle.cycle_encoding.proofs.Places.{no-item, at-item}
 use Rattle.cycle_encoding.proofs.Sorted.{map_same}
 use Rattle.cycle_encoding.proofs.Walk.{vars-append}
 use Rattle.order_encoding.specs.LiveVariables.{Need, pools, is_pooled}
-use Rattle.order_encoding.specs.LiveFamilies.{is_need_at, is_pooled_operand, needs_of, was_needed}
+use Rattle.order_encoding.specs.LiveFamilies.{is_need_at, is_pooled_operand, operands_needed, was_needed}
 use Rattle.order_encoding.specs.OrderSteps.{need_at, class_needs, needed_before}
 use Rattle.order_encoding.proofs.AddSteps.{of-append}
 use Rattle.order_encoding.proofs.Grid.{length-of, blocks-clauses, blocks-size, implied-append}
@@ -101,35 +101,35 @@ module _ {X : Type 0} (f : X → List Lit) (test : X → Bool) where
 
 -- ---- the operand at one place more
 
-module _ (g : LaunchGraph) (xs : List (ℕ × Launch)) (ns : List (ℕ × Need)) (cycle : ℕ) (os : List Operand) (at : ℕ) (lt : at < length os) (var : ℕ) (start mid : Formula) (is : mid ≡ with_clauses start (of_thing var (needs_of g xs ns cycle (take at os)))) where
+module _ (g : LaunchGraph) (xs : List (ℕ × Launch)) (ns : List (ℕ × Need)) (cycle : ℕ) (os : List Operand) (at : ℕ) (lt : at < length os) (var : ℕ) (start mid : Formula) (is : mid ≡ with_clauses start (of_thing var (operands_needed g xs ns cycle (take at os)))) where
   abbrev none : Operand
   none = record { class = 0; second = false }
 
   one_is : one_or_none (slice_get os at) ≡ get_or os at none ∷ []
   one_is = ap one_or_none (get_some os at none lt)
 
-  pub operand_room : length start.clauses + length (needs_of g xs ns cycle os) < 2 ^ 30 → length mid.clauses + length (needs_of g xs ns cycle (one_or_none (slice_get os at))) < 2 ^ 30
+  pub operand_room : length start.clauses + length (operands_needed g xs ns cycle os) < 2 ^ 30 → length mid.clauses + length (operands_needed g xs ns cycle (one_or_none (slice_get os at))) < 2 ^ 30
   operand_room room =
-      subst (λ (ys : List Operand). length mid.clauses + length (needs_of g xs ns cycle ys) < 2 ^ 30) (sym one_is)
+      subst (λ (ys : List Operand). length mid.clauses + length (operands_needed g xs ns cycle ys) < 2 ^ 30) (sym one_is)
       (those_of_room (λ (o : Operand). vars_of (is_need_at o.class cycle) ns) (is_pooled_operand g xs) os at none start mid lt var is room)
 
-  pub operand_step : (new : Formula) → new ≡ with_clauses mid (of_thing var (needs_of g xs ns cycle (one_or_none (slice_get os at)))) → new ≡ with_clauses start (of_thing var (needs_of g xs ns cycle (take (at + 1) os)))
+  pub operand_step : (new : Formula) → new ≡ with_clauses mid (of_thing var (operands_needed g xs ns cycle (one_or_none (slice_get os at)))) → new ≡ with_clauses start (of_thing var (operands_needed g xs ns cycle (take (at + 1) os)))
   operand_step new e =
       those_of_step (λ (o : Operand). vars_of (is_need_at o.class cycle) ns) (is_pooled_operand g xs) os at none start mid lt var is new
-      (e ∙ ap (λ (ys : List Operand). with_clauses mid (of_thing var (needs_of g xs ns cycle ys))) one_is)
+      (e ∙ ap (λ (ys : List Operand). with_clauses mid (of_thing var (operands_needed g xs ns cycle ys))) one_is)
 
 -- one operand
 module _ (g : LaunchGraph) (xs : List (ℕ × Launch)) (ns : List (ℕ × Need)) (cycle : ℕ) (o : Operand) (var : ℕ) where
-  no_need : (f : Formula) → is_pooled_operand g xs o ≡ false → f ≡ with_clauses f (of_thing var (needs_of g xs ns cycle (o ∷ [])))
+  no_need : (f : Formula) → is_pooled_operand g xs o ≡ false → f ≡ with_clauses f (of_thing var (operands_needed g xs ns cycle (o ∷ [])))
   no_need f e = with-none f ∙ ap (λ cs. with_clauses f (of_thing var cs)) (sym (those-none (λ (o : Operand). vars_of (is_need_at o.class cycle) ns) (is_pooled_operand g xs) o e))
 
-  pub free_need : (f : Formula) → is_free g o ≡ true → f ≡ with_clauses f (of_thing var (needs_of g xs ns cycle (o ∷ [])))
+  pub free_need : (f : Formula) → is_free g o ≡ true → f ≡ with_clauses f (of_thing var (operands_needed g xs ns cycle (o ∷ [])))
   free_need f e = no_need f (and_left (not (is_free g o)) (is_pooled g xs o.class) (ap not e))
 
-  pub unpooled_need : (f : Formula) → is_pooled g xs o.class ≡ false → f ≡ with_clauses f (of_thing var (needs_of g xs ns cycle (o ∷ [])))
+  pub unpooled_need : (f : Formula) → is_pooled g xs o.class ≡ false → f ≡ with_clauses f (of_thing var (operands_needed g xs ns cycle (o ∷ [])))
   unpooled_need f e = no_need f (and_right (not (is_free g o)) (is_pooled g xs o.class) e)
 
-  pub due_need : (lits : List Lit) → is_free g o ≡ false → is_pooled g xs o.class ≡ true → lits ≡ vars_of (is_need_at o.class cycle) ns → (negative var ∷ lits) ∷ [] ≡ of_thing var (needs_of g xs ns cycle (o ∷ []))
+  pub due_need : (lits : List Lit) → is_free g o ≡ false → is_pooled g xs o.class ≡ true → lits ≡ vars_of (is_need_at o.class cycle) ns → (negative var ∷ lits) ∷ [] ≡ of_thing var (operands_needed g xs ns cycle (o ∷ []))
   due_need lits f p e =
       ap (λ ls. of_thing var (ls ∷ [])) e
       ∙ ap (of_thing var) (sym (those-one (λ (o : Operand). vars_of (is_need_at o.class cycle) ns) (is_pooled_operand g xs) o (and_from (not (is_free g o)) (is_pooled g xs o.class) (ap not f) p)))

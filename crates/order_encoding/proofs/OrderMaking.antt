@@ -1,6 +1,6 @@
 -- Each schedule that fits and has variables is what some values show that satisfy the whole formula with pins.
-use Rattle.std.proofs.Common.{◌≡◌, ℕ, ◌+◌, ◌<◌, ◌≤◌, Bool, true, false, List, [], ◌∷◌, ◌++◌, length, get_or, refl, sym, ◌∙◌, subst, arith, inl, inr}
-use Rattle.std.specs.Prelude.{◌==◌, ◌&&◌, is_some, Contains, IsTrue, ◌↔◌}
+use Rattle.std.proofs.Common.{◌≡◌, ℕ, ◌+◌, ◌<◌, ◌≤◌, Bool, true, false, List, [], ◌∷◌, ◌++◌, length, get_or, refl, sym, subst, arith, inl, inr}
+use Rattle.std.specs.Prelude.{◌==◌, is_some, Contains, IsTrue, ◌↔◌}
 use Rattle.std.specs.List.{All, AllPairs, count_by, range_with_len}
 use Rattle.std.proofs.lemmas.List.Elements.{All-nil, All-cons, All-map, All-append, All-contains, Contains-get_or}
 use Rattle.std.proofs.lemmas.List.FromFn.{length-range_with_len}
@@ -16,14 +16,14 @@ use Rattle.graph_meaning.specs.declared.graphs.LaunchGraph.{LaunchGraph}
 use Rattle.schedule_meaning.specs.declared.schedules.Allocation.{Allocation}
 use Rattle.schedule_meaning.specs.declared.schedules.Allocation.TheVariants.{Block, Live}
 use Rattle.schedule_meaning.specs.declared.schedules.Launch.{Launch}
-use Rattle.cycle_encoding.specs.Shapes.{numbered, vars_of, shown, when, counters}
+use Rattle.cycle_encoding.specs.Shapes.{vars_of, shown, when, counters}
 use Rattle.cycle_encoding.specs.CycleFormula.{Listed, launch_vars}
 use Rattle.cycle_encoding.specs.CycleRules.{HasPlace}
 use Rattle.cycle_encoding.specs.Variables.{all_overwritten, Overwritten, pinned_sets}
 use Rattle.cycle_encoding.specs.CycleFormula.{overwritten_vars, after_counters, cycle_part, cycle_formula}
 use Rattle.cycle_encoding.specs.CycleRules.{WasOverwritten, AreShown}
 use Rattle.order_encoding.specs.OrderVariables.{Held, all_held}
-use Rattle.order_encoding.specs.OrderFamilies.{stores_at, entry_clauses, memory_clauses, kept_clauses, held_groups, store_groups, last_clauses, branch_clauses, branch_groups, wait_clauses, come_clauses}
+use Rattle.order_encoding.specs.OrderFamilies.{stores_at, entry_clauses, memory_clauses, kept_clauses, held_groups, store_groups, last_memory_clauses, branch_clauses, branch_groups, wait_clauses, come_clauses}
 use Rattle.order_encoding.specs.PinFamilies.{overwritten_clauses, pin_groups, pin_clauses, late_clauses, load_clauses}
 use Rattle.order_encoding.specs.WholeFormula.{pool_formula, pins_formula, whole_formula}
 use Rattle.order_encoding.proofs.Parts.{held_vars, before_stores, store_vars, before_held, memory_groups, after_memory, earliest_cycles, come_vars, before_branch, after_guard, after_pool, after_pins, memory_part, guard_part, pool_part, pool-clauses, pool-up, pins_part, capacity_part}
@@ -245,7 +245,7 @@ module _ (exact : AreExact) (g : LaunchGraph) (table : Table) (k : ℕ) (e : Lis
       let c6 = memory_clauses g xs ms ws in
       let c7 = kept_clauses g k xs ms ws in
       let c8 = counters (before_held g table k e) 1 (memory_groups g table k e) in
-      let c10 = last_clauses g k ms in
+      let c10 = last_memory_clauses g k ms in
       let c11 = branch_clauses g xs in
       let c12 = counters (before_branch g table k e) 1 (branch_groups g xs) in
       let c13 = wait_clauses g xs bs in

@@ -25,7 +25,7 @@ use Rattle.cycle_encoding.specs.Variables.{all_overwritten, is_overwriting, set_
 use Rattle.cycle_encoding.specs.CycleFormula.{overwritten_vars, after_counters, cycle_part, cycle_formula}
 use Rattle.cycle_encoding.specs.CycleRules.{KeepsCycleRules, ArePinsKept, WasOverwritten}
 use Rattle.order_encoding.specs.OrderVariables.{Held, all_held, all_taken}
-use Rattle.order_encoding.specs.OrderFamilies.{stores_at, entry_clauses, memory_clauses, kept_clauses, held_groups, store_groups, last_clauses, branch_clauses, branch_groups, wait_clauses, come_clauses, register_groups}
+use Rattle.order_encoding.specs.OrderFamilies.{stores_at, entry_clauses, memory_clauses, kept_clauses, held_groups, store_groups, last_memory_clauses, branch_clauses, branch_groups, wait_clauses, come_clauses, register_groups}
 use Rattle.order_encoding.specs.PinFamilies.{pool_clauses, overwritten_clauses, pin_groups, pin_clauses, late_clauses, load_clauses}
 use Rattle.order_encoding.specs.LiveVariables.{Hold, all_holds, all_needs, pooled_classes}
 use Rattle.order_encoding.specs.LiveFamilies as live
@@ -158,7 +158,7 @@ module _ (g : LaunchGraph) (table : Table) (k : ℕ) (e : Listed) where
         let hs = hold_vars g table k e in
         let a = need_clauses g xs ns in
         let b = earlier_clauses ns in
-        let c = live.last_clauses g k xs ns vs in
+        let c = live.last_need_clauses g k xs ns vs in
         let d = hold_clauses g k xs ns hs in
         let n = before_counts g table k e in
         let f = counters n (length g.pool) (hold_groups k hs) in
@@ -198,7 +198,7 @@ module _ (g : LaunchGraph) (table : Table) (k : ℕ) (e : Listed) where
       let c6 = memory_clauses g xs ms ws in
       let c7 = kept_clauses g k xs ms ws in
       let c8 = counters (before_held g table k e) 1 (memory_groups g table k e) in
-      let c10 = last_clauses g k ms in
+      let c10 = last_memory_clauses g k ms in
       let c11 = branch_clauses g xs in
       let c12 = counters (before_branch g table k e) 1 (branch_groups g xs) in
       let c13 = wait_clauses g xs bs in

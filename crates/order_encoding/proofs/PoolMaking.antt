@@ -1,9 +1,8 @@
 -- Values for a schedule that fits go on to some that satisfy the clauses of registers.
-use Rattle.std.proofs.Common.{◌≡◌, ℕ, ◌+◌, ◌<◌, ◌≤◌, Bool, true, false, not, List, [], ◌∷◌, ◌++◌, length, get_or, refl, sym, ap, ◌∙◌, subst, arith, inl, inr}
+use Rattle.std.proofs.Common.{◌≡◌, ℕ, ◌+◌, ◌<◌, ◌≤◌, Bool, not, List, [], ◌++◌, length, get_or, sym, ap, ◌∙◌, subst, arith, inl, inr}
 use Rattle.std.specs.Prelude.{◌==◌, Contains, ◌↔◌}
-use Rattle.std.specs.List.{All, count_by, filter, range_with_len}
+use Rattle.std.specs.List.{All, count_by, range_with_len}
 use Rattle.std.proofs.lemmas.List.Elements.{All-nil, All-cons, All-map, All-contains, Contains-get_or}
-use Rattle.cnf_core.specs.declared.literal.Lit.{Lit}
 use Rattle.cnf_core.specs.Formula.{Satisfies}
 use Rattle.cnf_core.specs.Counter.{count_true, Extends, HasExtension}
 use Rattle.machine_table.specs.declared.tables.Table.{Table}
@@ -37,7 +36,7 @@ use Rattle.order_encoding.proofs.LiveSays.{last-in as last-needs-in}
 use Rattle.order_encoding.proofs.OrderComplete.{pool_taken_now, pool_taken, pool_says, pinned-pool-few}
 use Rattle.order_encoding.proofs.OrderReading.{pinned-pool-over, holds-over}
 use Rattle.order_encoding.proofs.OrderSays.{SaysPool, pool-in}
-use Rattle.order_encoding.proofs.Parts.{after_guard, taken_vars, before_pool, need_vars, before_holds, hold_vars, before_counts, live_part, pool_by, pool_part_of, registers_part}
+use Rattle.order_encoding.proofs.Parts.{after_guard, taken_vars, before_pool, need_vars, before_holds, hold_vars, before_counts, pool_by, pool_part_of}
 
 pub shown-at : {X : Type 0} (v w : ℕ → Bool) (n m : ℕ) (xs ys : List X) → shown v (numbered n xs) ≡ ys → n + length xs ≤ m → Extends m v w → shown w (numbered n xs) ≡ ys
 shown-at v w n m xs ys h le e = shown-extends v w n m xs le e ∙ h
@@ -158,7 +157,7 @@ module _ (exact : AreExact) (g : LaunchGraph) (table : Table) (k : ℕ) (e : Lis
             let vs = overwritten_vars g table k e in
             let a = need_clauses g xs ns in
             let b = earlier_clauses ns in
-            let c = live.last_clauses g k xs ns vs in
+            let c = live.last_need_clauses g k xs ns vs in
             let d = hold_clauses g k xs ns hs in
             let f = counters n10 (length g.pool) (hold_groups k hs) in
             let launched_is : shown u xs ≡ S = launched-still u x9u in

@@ -13,7 +13,7 @@ use Rattle.graph_meaning.specs.declared.graphs.LaunchGraph.{LaunchGraph}
 use Rattle.schedule_meaning.specs.declared.schedules.Launch.{Launch}
 use Rattle.cycle_encoding.specs.Shapes.{vars_of, shown, implied, when}
 use Rattle.order_encoding.specs.OrderVariables.{Held}
-use Rattle.order_encoding.specs.OrderFamilies.{is_held_at, stores_at, uses_memory, branches_by, waits, entry_clauses, memory_clauses, kept_clauses, last_clauses, branch_clauses, wait_clauses, come_clauses}
+use Rattle.order_encoding.specs.OrderFamilies.{is_held_at, stores_at, uses_memory, branches_by, waits, entry_clauses, memory_clauses, kept_clauses, last_memory_clauses, branch_clauses, wait_clauses, come_clauses}
 use Rattle.cycle_encoding.proofs.Shown.{both, left, right, first, rest, one, when-out, when-in, any_of, implied-out, implied-in, flat-out, flat-in}
 use Rattle.cycle_encoding.proofs.ShownTests.{some-out, some-in}
 
@@ -134,10 +134,10 @@ module _ (g : LaunchGraph) (table : Table) (k : ℕ) (v : ℕ → Bool) (xs : Li
     pub kept-in : All Stored (range_with_len 0 k) → All Stays (range_with_len 0 k) → Satisfies v (kept_clauses g k xs ms ws)
     kept-in p q = flat-in v (λ t. stored_at t ++ implied ms (or_stays t)) (range_with_len 0 k) (λ i d lt. both v (stored_at _) (implied ms (or_stays _)) (stored-in _ (p i d lt)) (stays-in _ (q i d lt)))
 
-    pub last-out : Satisfies v (last_clauses g k ms) → list_any (is_held_at (memory_target g) k) (shown v ms) ≡ true
+    pub last-out : Satisfies v (last_memory_clauses g k ms) → list_any (is_held_at (memory_target g) k) (shown v ms) ≡ true
     last-out h = some-out v (is_held_at (memory_target g) k) ms (first v (vars_of (is_held_at (memory_target g) k) ms) [] h)
 
-    pub last-in : list_any (is_held_at (memory_target g) k) (shown v ms) ≡ true → Satisfies v (last_clauses g k ms)
+    pub last-in : list_any (is_held_at (memory_target g) k) (shown v ms) ≡ true → Satisfies v (last_memory_clauses g k ms)
     last-in h = one v (vars_of (is_held_at (memory_target g) k) ms) (some-in v (is_held_at (memory_target g) k) ms h)
 
   -- the guard

@@ -17,7 +17,7 @@ use Rattle.cycle_encoding.specs.Shapes.{negated, numbered, vars_of, implied, whe
 use Rattle.cycle_encoding.specs.Variables.{slots_of}
 use Rattle.cycle_encoding.specs.Variables.{use_launches, row_launches, launches_from, row_numbers, set_numbers, is_overwriting, overwriting_sets, all_overwritten, Overwritten, pinned_sets}
 use Rattle.order_encoding.specs.OrderVariables.{memory_classes, all_held, all_taken, Held, Taken}
-use Rattle.order_encoding.specs.OrderFamilies.{stores_at, uses_memory, waits, branches_by, is_held_at, is_taken_at, held_groups, store_groups, entry_clauses, memory_clauses, kept_clauses, last_clauses, branch_groups, register_groups}
+use Rattle.order_encoding.specs.OrderFamilies.{stores_at, uses_memory, waits, branches_by, is_held_at, is_taken_at, held_groups, store_groups, entry_clauses, memory_clauses, kept_clauses, last_memory_clauses, branch_groups, register_groups}
 use Rattle.cycle_encoding.specs.Families.{any}
 use Rattle.cycle_encoding.specs.CycleFormula.{Listed, Scope, allocation_in, first_cycle_in, launch_vars}
 use Rattle.cycle_encoding.specs.Families.{is_made_target}
@@ -242,7 +242,7 @@ module _ (g : LaunchGraph) (table : Table) (k : ℕ) (sc : Scope) where
         let c6 = memory_clauses g (launch_vars e) (held_vars g table k e) (store_vars g table k e) in
         let c7 = kept_clauses g k (launch_vars e) (held_vars g table k e) (store_vars g table k e) in
         let c8 = counters (before_held g table k e) 1 (memory_groups g table k e) in
-        let c10 = last_clauses g k (held_vars g table k e) in
+        let c10 = last_memory_clauses g k (held_vars g table k e) in
         let n5 = 1 + count_by (λ c. not (c == g.entry)) (memory_classes g) in
         let n6 = sum_destined g table k sc (λ row to. one_if (row_is g is_load row || row_is g is_store row) + one_if (row_is g is_store row) * 2) in
         let n7 = k * (1 + held_count g) in
@@ -297,7 +297,7 @@ module _ (g : LaunchGraph) (table : Table) (k : ℕ) (sc : Scope) where
         let vs = overwritten_vars g table k e in
         let a = need_clauses g xs ns in
         let b = earlier_clauses ns in
-        let c = live.last_clauses g k xs ns vs in
+        let c = live.last_need_clauses g k xs ns vs in
         let d = hold_clauses g k xs ns hs in
         let f = counters (before_counts g table k e) (length g.pool) (hold_groups k hs) in
         let na = sum_destined g table k sc (λ row to. count_by (is_pooled_operand_in g table k sc) (operands_at g row)) in

@@ -13,3 +13,4 @@ pub mod MemoryOver
 pub mod PlanOver
 pub mod PooledMarks
 pub mod PartOver
+pub mod Tallies

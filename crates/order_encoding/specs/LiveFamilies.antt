@@ -29,11 +29,11 @@ abbrev pub is_pooled_operand : LaunchGraph → List (ℕ × Launch) → Operand 
 is_pooled_operand g xs o = not (is_free g o) && is_pooled g xs o.class
 
 -- these operands are needed in a cycle
-abbrev pub needs_of : LaunchGraph → List (ℕ × Launch) → List (ℕ × Need) → ℕ → List Operand → List (List Lit)
-needs_of g xs ns cycle os = map (λ o. vars_of (is_need_at o.class cycle) ns) (filter (is_pooled_operand g xs) os)
+abbrev pub operands_needed : LaunchGraph → List (ℕ × Launch) → List (ℕ × Need) → ℕ → List Operand → List (List Lit)
+operands_needed g xs ns cycle os = map (λ o. vars_of (is_need_at o.class cycle) ns) (filter (is_pooled_operand g xs) os)
 
 abbrev pub operand_needs : LaunchGraph → List (ℕ × Launch) → List (ℕ × Need) → Launch → List (List Lit)
-operand_needs g xs ns l = needs_of g xs ns l.cycle (operands_at g l.row)
+operand_needs g xs ns l = operands_needed g xs ns l.cycle (operands_at g l.row)
 
 -- 15: the operands of a launch are needed in its cycle
 abbrev pub need_clauses : LaunchGraph → List (ℕ × Launch) → List (ℕ × Need) → List (List Lit)
@@ -58,9 +58,9 @@ abbrev pub target_groups : LaunchGraph → ℕ → List (ℕ × Launch) → List
     → List SetClass → List (List Lit)
 target_groups g k xs ns vs sets = map (target_needs g k ns vs) (filter (is_pooled_target g xs) sets)
 
-abbrev pub last_clauses : LaunchGraph → ℕ → List (ℕ × Launch) → List (ℕ × Need) → List (ℕ × Overwritten)
+abbrev pub last_need_clauses : LaunchGraph → ℕ → List (ℕ × Launch) → List (ℕ × Need) → List (ℕ × Overwritten)
     → List (List Lit)
-last_clauses g k xs ns vs = target_groups g k xs ns vs g.sets
+last_need_clauses g k xs ns vs = target_groups g k xs ns vs g.sets
 
 -- a launch to the pool that gives a word holds a register in a later cycle in which its class is needed
 abbrev pub holds_while : LaunchGraph → List (ℕ × Need) → List (ℕ × Hold) → Launch → ℕ → List Lit

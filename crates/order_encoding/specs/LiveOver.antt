@@ -22,7 +22,7 @@ module _ (v : Live) where
   last_need = v.needs.first + length needed
 
   abbrev pub lost_over : List (ℕ × Overwritten)
-  lost_over = numbered v.over.first (all_overwritten v.facts.now v.over.cycles)
+  lost_over = numbered v.over.now.first (all_overwritten v.facts.now v.over.now.cycles)
 
   abbrev pub AreNeedsOver : Type 0
   AreNeedsOver =

@@ -82,8 +82,8 @@ abbrev pub store_groups : LaunchGraph → ℕ → List (ℕ × Launch) → List 
 store_groups g k xs = map (λ t. vars_of (stores_at g t) xs) (range_with_len 0 k)
 
 -- 10: the memory of the target is held at the end
-abbrev pub last_clauses : LaunchGraph → ℕ → List (ℕ × Held) → List (List Lit)
-last_clauses g k ms = vars_of (is_held_at (memory_target g) k) ms ∷ []
+abbrev pub last_memory_clauses : LaunchGraph → ℕ → List (ℕ × Held) → List (List Lit)
+last_memory_clauses g k ms = vars_of (is_held_at (memory_target g) k) ms ∷ []
 
 -- ---- the branch of a guard: bs are the cycles by which it was launched
 

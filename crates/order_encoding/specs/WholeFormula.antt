@@ -24,7 +24,7 @@ use Rattle.order_encoding.specs.declared.adding.Part.{Part}
 use Rattle.order_encoding.specs.declared.adding.Part.TheVariants.{Memory, Guard, Pool, Pins, Capacity}
 use Rattle.order_encoding.specs.OrderVariables.{all_held, all_taken, Held, Taken}
 use Rattle.order_encoding.specs.OrderFamilies.{entry_clauses, memory_clauses, kept_clauses, held_groups}
-use Rattle.order_encoding.specs.OrderFamilies.{store_groups, last_clauses, branch_clauses, branch_groups}
+use Rattle.order_encoding.specs.OrderFamilies.{store_groups, last_memory_clauses, branch_clauses, branch_groups}
 use Rattle.order_encoding.specs.OrderFamilies.{wait_clauses, come_clauses, register_groups}
 use Rattle.order_encoding.specs.PinFamilies.{pool_clauses, overwritten_clauses, pin_groups, pin_clauses, late_clauses}
 use Rattle.order_encoding.specs.PinFamilies.{load_clauses}
@@ -61,7 +61,7 @@ module _ (g : LaunchGraph) (k : ℕ) (xs : List (ℕ × Launch)) (f : Formula) w
       ++ memory_clauses g xs new_held new_stores
       ++ kept_clauses g k xs new_held new_stores
       ++ counters before_new_groups 1 new_groups
-      ++ last_clauses g k new_held
+      ++ last_memory_clauses g k new_held
 
   abbrev pub with_memory : Formula
   with_memory =
@@ -127,7 +127,7 @@ module _ (g : LaunchGraph) (k : ℕ) (xs : List (ℕ × Launch)) (f : Formula) w
     added_live_ranges =
         need_clauses g xs new_needs
         ++ earlier_clauses new_needs
-        ++ live.last_clauses g k xs new_needs vs
+        ++ live.last_need_clauses g k xs new_needs vs
         ++ hold_clauses g k xs new_needs new_holds
         ++ counters before_hold_groups (length g.pool) (hold_groups k new_holds)
 

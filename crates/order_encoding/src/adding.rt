@@ -1,35 +1,35 @@
 // The parts of the whole formula behind that of cycles, slots and values, one after another.
 ghost use Rattle.std.specs.Prelude.{◌≡◌, ◌<◌, ◌≤◌, ◌^◌, IfOk, IfErr, OnOk};
 ghost use Rattle.cycle_encoding.specs.Framed.{IsFrame, over};
-ghost use Rattle.cycle_encoding.specs.Limits.{most_vars};
 ghost use Rattle.schedule_meaning.specs.Limits.{most_cycles};
 ghost use Rattle.graph_meaning.specs.WellFormed.{IsLaunchGraph};
 ghost use Rattle.machine_table.specs.Tables.{IsTable};
-ghost use Rattle.cycle_encoding.specs.CycleFormula.{before_overwritten, cycle_formula, launch_vars, listed_in};
+ghost use Rattle.cycle_encoding.specs.CycleFormula.{before_overwritten, cycle_formula, listed_in};
 ghost use Rattle.cycle_encoding.specs.Encodings.{OnLists};
+ghost use Rattle.order_encoding.specs.PlanOver.{AreOverwritten};
 ghost use Rattle.cycle_encoding.specs.Faults.{EncodeFaultIs};
 ghost use Rattle.cycle_encoding.specs.Plans.{IsTooLarge};
 ghost use Rattle.order_encoding.specs.PartOver.{HasLaunches, HasOverwritten, IsBuilt, IsBuiltFault, IsInLimits};
-ghost use Rattle.order_encoding.specs.PlanOver.{IsCapacityOf, by_list, listed_by};
+ghost use Rattle.order_encoding.specs.PlanOver.{AreFirstSizes, IsCapacityOf, by_list, listed_by};
 ghost use Rattle.order_encoding.specs.OrderCounts.{part_size, part_vars};
 ghost use Rattle.order_encoding.specs.WholeFormula.{KnowsOverwritten, before_part, with_part};
-ghost use Rattle.order_encoding.specs.WholeFormula.{before_new_stores, guard_formula, memory_formula, pool_formula};
+ghost use Rattle.order_encoding.specs.WholeFormula.{guard_formula, memory_formula, pool_formula};
 ghost use Rattle.order_encoding.specs.WholeFormula.{pins_formula, whole_formula};
 
-use crate::counts::{grown, memory_count, times};
+use crate::counts::grown;
 use crate::guard::extend_by_guard;
 use crate::laws::parts_are_counted;
 use crate::live_ranges::extend_by_live_ranges;
 use crate::memory::extend_by_memory;
 use crate::pin_counts::pins_sizes;
 use crate::pins::extend_by_pins;
-use crate::plans::Plan;
+use crate::plans::{FirstSizes, Plan};
 use crate::pool::extend_by_registers;
-use crate::sizes::{guard_sizes, memory_sizes, pool_sizes};
+use crate::sizes::{first_sizes, guard_sizes, pool_sizes};
 use cnf_core::Cnf;
 use cycle_encoding::{
-    EncodeFault, Encoded, Facts, Frame, Scope, Sizes, cycle_counts_are_found, cycle_sizes,
-    each_encoding_has_one_list,
+    EncodeFault, Encoded, Facts, Frame, Scope, Sizes, cycle_counts_are_found,
+    each_encoding_has_one_list, overwritten_vars,
 };
 use graph_meaning::LaunchGraph;
 use items::NoMemory;
@@ -62,9 +62,11 @@ fn part_sizes(
     alloc: Global,
     part: Part,
     frame: &Frame,
+    first: &FirstSizes,
     capacity: &Capacity,
 ) -> Result<Sizes, NoMemory>
     requires frame { IsFrame frame.now }
+    requires first { AreFirstSizes frame.now first.now }
     requires capacity { IsCapacityOf frame.now capacity.now }
     ensures vars { IfOk result (λ sizes. sizes.vars ≡ over frame.now (part_vars part)) }
     ensures clauses { IfOk result (λ sizes. sizes.clauses ≡ over frame.now (part_size part)) }
@@ -72,7 +74,7 @@ fn part_sizes(
     ensures few_clauses { IfOk result (λ sizes. sizes.clauses < 2 ^ 62) }
 {
     match part {
-        Part::Memory => Ok(memory_sizes(frame)),
+        Part::Memory => Ok(first.memory),
         Part::Guard => Ok(guard_sizes(frame)),
         Part::Pool => pool_sizes(alloc, frame),
         Part::Pins => Ok(pins_sizes(frame)),
@@ -80,37 +82,13 @@ fn part_sizes(
     }
 }
 
-/// How many variables come before those of cycles with a store; no clause is built.
-fn before_stores(frame: &Frame) -> u32
-    requires frame { IsFrame frame.now }
-    requires few { before_new_stores frame.now.facts.now frame.now.k (launch_vars (over frame.now listed_in))
-        (by_list frame.now cycle_formula) ≤ most_vars }
-    ensures { result ≡ before_new_stores frame.now.facts.now frame.now.k (launch_vars (over frame.now listed_in))
-        (by_list frame.now cycle_formula) }
-{
-    cycle_counts_are_found();
-    let cycle = cycle_sizes(frame);
-    (cycle.vars + times(frame.k + 1, memory_count(frame.facts))) as u32
-}
-
-/// How many variables come before those of the cycles by which the branch has come; no clause is built.
-fn before_branch(frame: &Frame) -> u32
-    requires frame { IsFrame frame.now }
-    requires few { (by_list frame.now memory_formula).vars ≤ most_vars }
-    ensures { result ≡ (by_list frame.now memory_formula).vars }
-{
-    parts_are_counted();
-    let cycle = cycle_sizes(frame);
-    let memory = memory_sizes(frame);
-    (cycle.vars + memory.vars) as u32
-}
-
 /// Adds the variables and clauses of registers, as long as launches keep them.
 fn extend_by_pool(alloc: Global, cnf: &mut Cnf, plan: &Plan) -> Result<(), NoMemory>
     requires frame { IsFrame plan.now.frame }
     requires formula { cnf.old ≡ by_list plan.now.frame guard_formula }
     requires launches { plan.now.launches.now ≡ (listed_by plan.now).launches }
-    requires overwritten { plan.now.overwritten ≡ before_overwritten (listed_by plan.now) }
+    requires over { AreOverwritten plan.now.frame plan.now.over.now }
+    requires overwritten { plan.now.over.now.first ≡ before_overwritten (listed_by plan.now) }
     requires within { ¬ IsTooLarge (by_list plan.now.frame pool_formula) }
     ensures { OnOk result (cnf.new ≡ by_list plan.now.frame pool_formula) }
 {
@@ -123,20 +101,25 @@ fn extend_by_pool(alloc: Global, cnf: &mut Cnf, plan: &Plan) -> Result<(), NoMem
 /// Adds a part's variables and clauses.
 pub fn extend(alloc: Global, part: Part, cnf: &mut Cnf, plan: &Plan) -> Result<(), NoMemory>
     requires frame { IsFrame plan.now.frame }
+    requires sizes { AreFirstSizes plan.now.frame plan.now.sizes }
     requires capacity { IsCapacityOf plan.now.frame plan.now.capacity.now }
     requires formula { cnf.old ≡ by_list plan.now.frame (before_part part) }
     requires launches { plan.now.launches.now ≡ (listed_by plan.now).launches }
-    requires overwritten { KnowsOverwritten part plan.now.overwritten (listed_by plan.now) }
+    requires over { AreOverwritten plan.now.frame plan.now.over.now }
+    requires overwritten { KnowsOverwritten part plan.now.over.now.first (listed_by plan.now) }
     requires within { ¬ IsTooLarge (by_list plan.now.frame (with_part part)) }
     ensures { OnOk result (cnf.new ≡ by_list plan.now.frame (with_part part)) }
 {
+    cycle_counts_are_found();
+    parts_are_counted();
     match part {
         Part::Memory => extend_by_memory(alloc, cnf, plan),
         Part::Guard => extend_by_guard(alloc, cnf, plan),
         Part::Pool => extend_by_pool(alloc, cnf, plan),
         Part::Pins => {
-            let branches = before_branch(&plan.frame);
-            let stores = before_stores(&plan.frame);
+            let cycle = plan.sizes.cycle.vars;
+            let branches = (cycle + plan.sizes.memory.vars) as u32;
+            let stores = (cycle + plan.sizes.held) as u32;
             extend_by_pins(alloc, cnf, plan, branches, stores)
         }
         Part::Capacity => {
@@ -309,13 +292,16 @@ fn add_part_in(
     parts_are_counted();
     let mut cnf = encoded.cnf;
     let plan = encoded.plan;
+    let first = first_sizes(frame);
     let capacity = Capacity::of(alloc, frame)?;
-    let sizes = grown(&cnf, part_sizes(alloc, part, frame, &capacity)?);
+    let sizes = grown(&cnf, part_sizes(alloc, part, frame, &first, &capacity)?);
     sizes.within_limits()?;
+    let over = overwritten_vars(alloc, frame.facts, frame.k, plan.overwritten())?;
     let layout = Plan {
         frame: *frame,
+        sizes: first,
         launches: plan.launches(),
-        overwritten: plan.overwritten(),
+        over: &over,
         capacity: &capacity,
     };
     extend(alloc, part, &mut cnf, &layout)?;

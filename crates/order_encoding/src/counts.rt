@@ -5,16 +5,14 @@ ghost use Rattle.cnf_core.specs.Counter as counter;
 ghost use Rattle.cnf_core.specs.declared.literal.Lit.{Lit as LitOf};
 ghost use Rattle.graph_meaning.specs.WellFormed.{IsLaunchGraph};
 ghost use Rattle.cycle_encoding.specs.Framed.{IsFrame, over};
-ghost use Rattle.cycle_encoding.specs.Counts as cycle_counts;
 ghost use Rattle.order_encoding.specs.OrderCounts as counts;
-ghost use Rattle.order_encoding.specs.OrderCounts.{row_uses};
 ghost use Rattle.order_encoding.specs.OrderVariables.{memory_classes};
 
-use crate::held::is_memory_class;
+use crate::held_memory::is_memory_class;
 use cnf_core::Cnf;
-use cycle_encoding::{Facts, Frame, Sizes, can_begin, next_class, row_count, slot_count};
+use cycle_encoding::{Facts, Frame, Sizes, can_begin, next_class, slot_count};
 use graph_meaning::LaunchGraph;
-use schedule_meaning::{is_load, is_store};
+use schedule_meaning::is_store;
 
 /// The counts of a formula to which a part is added.
 pub fn grown(cnf: &Cnf, part: Sizes) -> Sizes
@@ -107,22 +105,6 @@ pub fn other_count(facts: &Facts) -> u64
         count += u64::from(is_memory_class(facts, class) && class != entry);
     }
     count
-}
-
-/// How many clauses say which memory the launches of a row use.
-#[tactic(auto, using(crate::proofs::CountSteps::uses_of_store, crate::proofs::CountSteps::uses_of_load, crate::proofs::CountSteps::no_uses))]
-pub fn row_use_count(frame: &Frame, row: u32) -> u64
-    requires frame { IsFrame frame.now }
-    ensures value { result ≡ over frame.now cycle_counts.row_count row * row_uses frame.now.facts.now row }
-    ensures few { result ≤ 600 }
-{
-    if is_store(frame.facts.instr_at(row)) {
-        row_count(frame.facts, frame.table, frame.scope, frame.k, row) * 3
-    } else if is_load(frame.facts.instr_at(row)) {
-        row_count(frame.facts, frame.table, frame.scope, frame.k, row)
-    } else {
-        0
-    }
 }
 
 // ---- registers

@@ -14,7 +14,7 @@ ghost use Rattle.order_encoding.specs.OrderSteps.{slot_lits};
 ghost use Rattle.order_encoding.specs.OrderSteps as steps;
 
 use crate::counts::registers;
-use crate::needs::{Live, need_var, push_option};
+use crate::needs::{Live, need_var, push_lit};
 use cnf_core::{Cnf, Lit, at_most, counters_count};
 use cycle_encoding::{Facts, Made, add_implied};
 use items::NoMemory;
@@ -164,8 +164,8 @@ fn hold_clause(
         var,
         positive: false,
     })?;
-    push_option(&mut clause, negated_option(need))?;
-    push_option(&mut clause, hold)?;
+    push_lit(&mut clause, negated_option(need))?;
+    push_lit(&mut clause, hold)?;
     Ok(clause)
 }
 
@@ -210,7 +210,7 @@ fn push_slot_lits(
         ++ slot_lits cycle (numbered holds.now.first (all_holds holds.now.table.now holds.now.k)) slot) }
 {
     for start in 0..cycle + 1 {
-        push_option(lits, hold_var(holds, slot, start, cycle))?;
+        push_lit(lits, hold_var(holds, slot, start, cycle))?;
     }
     Ok(())
 }

@@ -1,6 +1,8 @@
 // Which launches wait for the branch, which go to a set, and the launches of a kind.
 ghost use Rattle.std.specs.Prelude.{◌≡◌, ◌<◌, ◌^◌, [], ◌∷◌, ◌++◌, if◌then◌else◌, length, IfOk, OnOk};
 ghost use Rattle.schedule_meaning.specs.Launches as specs;
+ghost use Rattle.cycle_encoding.specs.Counts.{row_is};
+ghost use Rattle.cycle_encoding.specs.Narrow.{accesses};
 ghost use Rattle.cycle_encoding.specs.Shapes.{positive};
 ghost use Rattle.order_encoding.specs.OrderCounts as counts;
 ghost use Rattle.order_encoding.specs.OrderSteps.{launched_in};
@@ -8,6 +10,7 @@ ghost use Rattle.order_encoding.specs.OrderSteps.{launched_in};
 use cnf_core::Lit;
 use cycle_encoding::Facts;
 use items::NoMemory;
+use machine_table::InstrKind;
 use schedule_meaning::{Launch, To, is_branch, is_held, is_load, is_store};
 use std::alloc::Global;
 
@@ -17,6 +20,16 @@ pub fn waits(facts: &Facts, row: u32) -> bool
 {
     let instr = facts.instr_at(row);
     is_store(instr) || is_load(instr) && is_held(facts.graph())
+}
+
+/// Whether the row is a load or a store.
+pub fn accesses(facts: &Facts, row: u32) -> bool
+    ensures { result ≡ row_is facts.now accesses row }
+{
+    match facts.instr_at(row) {
+        Some(InstrKind::Load(_) | InstrKind::Store(_)) => true,
+        _ => false,
+    }
 }
 
 /// Whether the launch goes to the set of this number.

@@ -27,7 +27,7 @@ mod adding;
 mod counts;
 mod cycles;
 mod guard;
-mod held;
+mod held_memory;
 mod holds;
 mod kinds;
 mod laws;
@@ -40,6 +40,7 @@ mod pins;
 mod plans;
 mod pool;
 mod sizes;
+mod tallies;
 mod whole;
 
 pub use adding::{add_capacity, add_guard, add_memory, add_pins, add_pool};

@@ -1,5 +1,6 @@
 // Registers by live ranges: in each cycle the launches that hold one are no more than the pool has.
 ghost use Rattle.std.specs.Prelude.{◌≡◌, ◌≤◌, ◌+◌, length, OnOk};
+ghost use Rattle.order_encoding.specs.PlanOver.{AreOverwritten};
 ghost use Rattle.cycle_encoding.specs.Framed.{IsFrame};
 ghost use Rattle.cycle_encoding.specs.Limits.{most_vars, most_clauses};
 ghost use Rattle.order_encoding.specs.PlanOver.{last_lost, live_ranges_by};
@@ -8,14 +9,15 @@ use crate::holds::{HoldVars, add_hold_counters, add_holds, holds_count};
 use crate::needs::{Live, add_earlier, add_last_needs, add_needs, need_vars, needs_count};
 use crate::plans::Plan;
 use cnf_core::{Cnf, counters_count};
-use cycle_encoding::{add_vars, overwritten_vars};
+use cycle_encoding::add_vars;
 use items::NoMemory;
 use std::alloc::Global;
 
 /// Adds the variables and clauses of registers by live ranges.
 pub fn extend_by_live_ranges(alloc: Global, cnf: &mut Cnf, plan: &Plan) -> Result<(), NoMemory>
     requires frame { IsFrame plan.now.frame }
-    requires launches { length plan.now.launches.now ≤ plan.now.overwritten }
+    requires over { AreOverwritten plan.now.frame plan.now.over.now }
+    requires launches { length plan.now.launches.now ≤ plan.now.over.now.first }
     requires exist { last_lost plan.now ≤ cnf.old.vars }
     requires vars { (live_ranges_by plan.now cnf.old).vars ≤ most_vars }
     requires clauses { length (live_ranges_by plan.now cnf.old).clauses ≤ most_clauses }
@@ -24,13 +26,12 @@ pub fn extend_by_live_ranges(alloc: Global, cnf: &mut Cnf, plan: &Plan) -> Resul
     counters_count();
     let first = cnf.vars();
     let needs = need_vars(alloc, plan.frame.facts, plan.launches, plan.frame.k, first)?;
-    let over = overwritten_vars(alloc, plan.frame.facts, plan.frame.k, plan.overwritten)?;
     let live = Live {
         facts: plan.frame.facts,
         table: plan.frame.table,
         launches: plan.launches,
         needs,
-        over,
+        over: plan.over,
     };
     add_vars(cnf, needs_count(&live));
     let held = cnf.vars();

@@ -15,7 +15,7 @@ ghost use Rattle.order_encoding.specs.OrderFamilies.{stays, store_clause};
 ghost use Rattle.order_encoding.specs.OrderSteps.{AreHeldVars, held_at, launched_in};
 
 use crate::cycles::cycle_var;
-use crate::held::{
+use crate::held_memory::{
     HeldVars, add_entry, add_held_counters, add_last, held_after, held_var, held_vars,
 };
 use crate::kinds::{push_var_if, stores};

@@ -44,7 +44,7 @@ pub struct Live<'a> {
     pub table: &'a Table,
     pub launches: &'a [Launch],
     pub needs: NeedVars,
-    pub over: OverwrittenVars,
+    pub over: &'a OverwrittenVars,
 }
 
 /// For each class whether some launch goes to the pool and gives it, as a mark.
@@ -217,10 +217,10 @@ fn add_need_at(cnf: &mut Cnf, live: &Live, made: Made, at: usize) -> Result<(), 
     requires launches { made.var ≤ live.now.needs.first }
     requires exist { last_need live.now ≤ cnf.old.vars }
     requires few { cnf.old.vars < 2 ^ 29 }
-    requires room { length cnf.old.clauses + length (families.needs_of live.now.facts.now (launched_over live.now)
+    requires room { length cnf.old.clauses + length (families.operands_needed live.now.facts.now (launched_over live.now)
         (needs_over live.now) made.launch.cycle
         (one_or_none (slice_get (specs.operands_at live.now.facts.now made.launch.row) at))) < 2 ^ 30 }
-    ensures { OnOk result (cnf.new ≡ with_clauses cnf.old (of_thing made.var (families.needs_of live.now.facts.now
+    ensures { OnOk result (cnf.new ≡ with_clauses cnf.old (of_thing made.var (families.operands_needed live.now.facts.now
         (launched_over live.now) (needs_over live.now) made.launch.cycle
         (one_or_none (slice_get (specs.operands_at live.now.facts.now made.launch.row) at))))) }
 {
@@ -243,10 +243,10 @@ fn add_need_of(
     requires launches { var ≤ live.now.needs.first }
     requires exist { last_need live.now ≤ cnf.old.vars }
     requires few { cnf.old.vars < 2 ^ 29 }
-    requires room { length cnf.old.clauses + length (families.needs_of live.now.facts.now (launched_over live.now)
+    requires room { length cnf.old.clauses + length (families.operands_needed live.now.facts.now (launched_over live.now)
         (needs_over live.now) cycle (operand ∷ [])) < 2 ^ 30 }
     ensures { OnOk result (cnf.new ≡ with_clauses cnf.old (of_thing var
-        (families.needs_of live.now.facts.now (launched_over live.now)
+        (families.operands_needed live.now.facts.now (launched_over live.now)
         (needs_over live.now) cycle (operand ∷ [])))) }
 {
     if live.facts.is_free(operand.class, operand.second) {
@@ -301,16 +301,16 @@ fn add_class_earlier(cnf: &mut Cnf, before: u32, k: u32) -> Result<(), NoMemory>
 pub fn add_last_needs(alloc: Global, cnf: &mut Cnf, live: &Live) -> Result<(), NoMemory>
     requires needs { AreNeedsOver live.now }
     requires exist { last_need live.now ≤ cnf.old.vars }
-    requires over { AreOverwrittenVars live.now.facts.now live.now.over.cycles live.now.over.first
-        live.now.over.sets.items }
-    requires same { live.now.over.cycles ≡ live.now.needs.cycles }
-    requires overwritten { live.now.over.first + length (all_overwritten live.now.facts.now live.now.over.cycles)
+    requires over { AreOverwrittenVars live.now.facts.now live.now.over.now.cycles live.now.over.now.first
+        live.now.over.now.sets.items }
+    requires same { live.now.over.now.cycles ≡ live.now.needs.cycles }
+    requires overwritten { live.now.over.now.first + length (all_overwritten live.now.facts.now live.now.over.now.cycles)
         ≤ cnf.old.vars }
     requires few { cnf.old.vars < 2 ^ 29 }
-    requires room { length cnf.old.clauses + length (families.last_clauses live.now.facts.now live.now.needs.cycles
+    requires room { length cnf.old.clauses + length (families.last_need_clauses live.now.facts.now live.now.needs.cycles
         (launched_over live.now) (needs_over live.now) (lost_over live.now)) < 2 ^ 30 }
     ensures { OnOk result (cnf.new ≡ with_clauses cnf.old
-        (families.last_clauses live.now.facts.now live.now.needs.cycles (launched_over live.now) (needs_over live.now)
+        (families.last_need_clauses live.now.facts.now live.now.needs.cycles (launched_over live.now) (needs_over live.now)
         (lost_over live.now))) }
 {
     for set in live.facts.graph().sets.as_slice() {
@@ -323,10 +323,10 @@ pub fn add_last_needs(alloc: Global, cnf: &mut Cnf, live: &Live) -> Result<(), N
 fn add_last_need(alloc: Global, cnf: &mut Cnf, live: &Live, set: &SetClass) -> Result<(), NoMemory>
     requires needs { AreNeedsOver live.now }
     requires exist { last_need live.now ≤ cnf.old.vars }
-    requires over { AreOverwrittenVars live.now.facts.now live.now.over.cycles live.now.over.first
-        live.now.over.sets.items }
-    requires same { live.now.over.cycles ≡ live.now.needs.cycles }
-    requires overwritten { live.now.over.first + length (all_overwritten live.now.facts.now live.now.over.cycles)
+    requires over { AreOverwrittenVars live.now.facts.now live.now.over.now.cycles live.now.over.now.first
+        live.now.over.now.sets.items }
+    requires same { live.now.over.now.cycles ≡ live.now.needs.cycles }
+    requires overwritten { live.now.over.now.first + length (all_overwritten live.now.facts.now live.now.over.now.cycles)
         ≤ cnf.old.vars }
     requires few { cnf.old.vars < 2 ^ 29 }
     requires room { length cnf.old.clauses + length (families.target_groups live.now.facts.now live.now.needs.cycles
@@ -349,18 +349,18 @@ fn add_last_need(alloc: Global, cnf: &mut Cnf, live: &Live, set: &SetClass) -> R
 fn last_clause(alloc: Global, live: &Live, class: u32) -> Result<Vec<Lit>, NoMemory>
     requires needs { AreNeedsOver live.now }
     requires few { last_need live.now < 2 ^ 29 }
-    requires over { AreOverwrittenVars live.now.facts.now live.now.over.cycles live.now.over.first
-        live.now.over.sets.items }
+    requires over { AreOverwrittenVars live.now.facts.now live.now.over.now.cycles live.now.over.now.first
+        live.now.over.now.sets.items }
     ensures { IfOk result (λ clause. clause.items ≡ vars_of (is_need_at class (live.now.needs.cycles - 1))
         (needs_over live.now) ++ negated (is_lost live.now.facts.now class live.now.needs.cycles) (lost_over live.now)) }
 {
     let mut clause = Vec::new(alloc);
     let last = live.needs.cycles.saturating_sub(1);
-    push_option(&mut clause, need_var(live, class, last))?;
+    push_lit(&mut clause, need_var(live, class, last))?;
     push_lost(
         &mut clause,
         live.facts,
-        &live.over,
+        live.over,
         class,
         u64::from(live.needs.cycles),
     )?;
@@ -368,7 +368,7 @@ fn last_clause(alloc: Global, live: &Live, class: u32) -> Result<Vec<Lit>, NoMem
 }
 
 /// Pushes a literal, if there is one.
-pub fn push_option(lits: &mut Vec<Lit>, lit: Option<Lit>) -> Result<(), NoMemory>
+pub fn push_lit(lits: &mut Vec<Lit>, lit: Option<Lit>) -> Result<(), NoMemory>
     ensures { OnOk result (lits.new.items ≡ lits.old.items ++ option_to_list lit) }
 {
     if let Some(lit) = lit {

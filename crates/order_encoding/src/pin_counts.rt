@@ -11,58 +11,12 @@ ghost use Rattle.order_encoding.specs.PinFamilies as families;
 ghost use Rattle.order_encoding.specs.OrderCounts as counts;
 ghost use Rattle.order_encoding.specs.OrderSteps.{set_size};
 
-use cycle_encoding::{
-    Facts, Frame, Sizes, goes, is_overwriting, late, one_size, one_vars, row_count, takes_input,
-};
+use crate::tallies::{Tally, tally_all};
+use cycle_encoding::{Facts, Frame, Sizes, is_overwriting, late, one_size, one_vars, takes_input};
 use schedule_meaning::{Allocation, is_load};
 
-/// How many launches go to a set.
-#[tactic(auto, using(crate::proofs::CountSteps::sum_more))]
-fn goes_count(frame: &Frame, set: u32) -> u64
-    requires frame { IsFrame frame.now }
-    ensures value { result ≡ over frame.now counts.goes_count set }
-    ensures few { result < 2 ^ 40 }
-{
-    let mut count = 0;
-    for row in 0..frame.facts.row_numbers() {
-        count += row_count(frame.facts, frame.table, frame.scope, frame.k, row)
-            * goes(frame.facts, frame.scope.allocation(), row, set);
-    }
-    count
-}
-
-/// How many launches overwrite.
-#[tactic(auto, using(crate::proofs::CountSteps::sum_more))]
-fn late_count(frame: &Frame) -> u64
-    requires frame { IsFrame frame.now }
-    ensures value { result ≡ over frame.now counts.late_count }
-    ensures few { result < 2 ^ 45 }
-{
-    let mut count = 0;
-    for row in 0..frame.facts.row_numbers() {
-        count += row_count(frame.facts, frame.table, frame.scope, frame.k, row)
-            * late(frame.facts, frame.scope.allocation(), row);
-    }
-    count
-}
-
-/// How many loads overwrite an input's register.
-#[tactic(auto, using(crate::proofs::CountSteps::sum_more))]
-fn over_load_count(frame: &Frame) -> u64
-    requires frame { IsFrame frame.now }
-    ensures value { result ≡ over frame.now counts.over_load_count }
-    ensures few { result < 2 ^ 45 }
-{
-    let mut count = 0;
-    for row in 0..frame.facts.row_numbers() {
-        count += row_count(frame.facts, frame.table, frame.scope, frame.k, row)
-            * over_loads(frame.facts, frame.scope.allocation(), row);
-    }
-    count
-}
-
 /// How many destinations of a row overwrite an input's register, if it is a load.
-fn over_loads(facts: &Facts, allocation: Allocation, row: u32) -> u64
+pub fn over_loads(facts: &Facts, allocation: Allocation, row: u32) -> u64
     ensures value { result
         ≡ sum_by (λ to. one_if (row_is facts.now launches.is_load row && counts.overwrites_at facts.now to))
         (row_destinations facts.now allocation row) }
@@ -80,10 +34,10 @@ fn set_sizes(frame: &Frame, set: u32) -> Sizes
     requires frame { IsFrame frame.now }
     ensures vars { result.vars ≡ counter.at_most_vars 1 (over frame.now counts.goes_count set) }
     ensures clauses { result.clauses ≡ over frame.now set_size set }
-    ensures few_vars { result.vars < 2 ^ 40 }
-    ensures few_clauses { result.clauses < 2 ^ 43 }
+    ensures few_vars { result.vars < 2 ^ 46 }
+    ensures few_clauses { result.clauses < 2 ^ 49 }
 {
-    let literals = goes_count(frame, set);
+    let literals = tally_all(frame, Tally::Goes(set));
     let mut clauses = one_size(literals);
     if is_overwriting(frame.facts, set) {
         clauses += literals + u64::from(frame.k);
@@ -112,8 +66,8 @@ fn sets_sizes(frame: &Frame) -> Sizes
     requires frame { IsFrame frame.now }
     ensures vars { result.vars ≡ over frame.now counts.pins_vars }
     ensures clauses { result.clauses ≡ sum_by (over frame.now set_size) (variables.pinned_sets frame.now.facts.now) }
-    ensures few_vars { result.vars < 2 ^ 45 }
-    ensures few_clauses { result.clauses < 2 ^ 48 }
+    ensures few_vars { result.vars < 2 ^ 51 }
+    ensures few_clauses { result.clauses < 2 ^ 54 }
 {
     let mut vars = 0;
     let mut clauses = 0;
@@ -131,17 +85,17 @@ pub fn pins_sizes(frame: &Frame) -> Sizes
     requires frame { IsFrame frame.now }
     ensures vars { result.vars ≡ over frame.now counts.pins_vars }
     ensures clauses { result.clauses ≡ over frame.now counts.pins_size }
-    ensures few_vars { result.vars < 2 ^ 50 }
-    ensures few_clauses { result.clauses < 2 ^ 50 }
+    ensures few_vars { result.vars < 2 ^ 51 }
+    ensures few_clauses { result.clauses < 2 ^ 55 }
 {
     let sizes = sets_sizes(frame);
     let late = if frame.facts.graph().guard.is_some() {
-        late_count(frame)
+        tally_all(frame, Tally::Late)
     } else {
         0
     };
     Sizes {
         vars: sizes.vars,
-        clauses: sizes.clauses + late + over_load_count(frame),
+        clauses: sizes.clauses + late + tally_all(frame, Tally::OverLoads),
     }
 }

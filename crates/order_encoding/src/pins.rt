@@ -31,7 +31,7 @@ use std::alloc::Global;
 fn add_overwritten(cnf: &mut Cnf, plan: &Plan) -> Result<(), NoMemory>
     requires rows { length plan.now.frame.facts.now.rows < 2 ^ 30 }
     requires cycles { plan.now.frame.k ≤ most_cycles }
-    requires launches { length plan.now.launches.now ≤ plan.now.overwritten }
+    requires launches { length plan.now.launches.now ≤ plan.now.over.now.first }
     requires exist { last_lost plan.now ≤ cnf.old.vars }
     requires few { cnf.old.vars < 2 ^ 29 }
     requires room { length cnf.old.clauses + length (overwritten_clauses plan.now.frame.facts.now plan.now.frame.k
@@ -39,7 +39,7 @@ fn add_overwritten(cnf: &mut Cnf, plan: &Plan) -> Result<(), NoMemory>
     ensures { OnOk result (cnf.new ≡ with_clauses cnf.old
         (overwritten_clauses plan.now.frame.facts.now plan.now.frame.k (launched_by plan.now) (lost_by plan.now))) }
 {
-    let mut before = plan.overwritten;
+    let mut before = plan.over.first;
     for set in 0..set_count(plan.frame.facts) {
         if is_overwriting(plan.frame.facts, set) {
             add_set(cnf, plan, set, before)?;
@@ -330,7 +330,7 @@ pub fn extend_by_pins(
     stores: u32,
 ) -> Result<(), NoMemory>
     requires frame { IsFrame plan.now.frame }
-    requires launches { length plan.now.launches.now ≤ plan.now.overwritten }
+    requires launches { length plan.now.launches.now ≤ plan.now.over.now.first }
     requires exist { last_lost plan.now ≤ branches }
     requires branches { branches + length (branch_cycles plan.now) ≤ cnf.old.vars }
     requires before_stores { length plan.now.launches.now ≤ stores }

@@ -16,18 +16,18 @@ ghost use Rattle.cycle_encoding.specs.CycleFormula.{listed_in};
 ghost use Rattle.cycle_encoding.specs.CycleFormula.{wide, before_overwritten};
 ghost use Rattle.cycle_encoding.specs.Plans.{IsTooLarge, plan_of};
 ghost use Rattle.cycle_encoding.specs.Shapes.{numbered, shown};
-ghost use Rattle.order_encoding.specs.PlanOver.{IsCapacityOf, by_list};
+ghost use Rattle.order_encoding.specs.PlanOver.{AreFirstSizes, IsCapacityOf, by_list};
 ghost use Rattle.order_encoding.specs.WholeFormula.{IsFormulaOf, IsSizeFault, formula_in, whole_formula};
 
 use crate::adding::{PARTS, extend};
 use crate::counts::both;
 use crate::laws::{counts_are_found, each_encoding_says_fits};
 use crate::pin_counts::pins_sizes;
-use crate::plans::Plan;
-use crate::sizes::{guard_sizes, memory_sizes, pool_sizes};
+use crate::plans::{FirstSizes, Plan};
+use crate::sizes::{first_sizes, guard_sizes, pool_sizes};
 use cycle_encoding::{
-    EncodeFault, Encoded, Encoding, Facts, Frame, Scope, Sizes, build_cycles, cycle_sizes,
-    each_encoding_has_one_list,
+    EncodeFault, Encoded, Encoding, Facts, Frame, Scope, Sizes, build_cycles,
+    each_encoding_has_one_list, overwritten_vars,
 };
 use graph_meaning::LaunchGraph;
 use items::NoMemory;
@@ -59,20 +59,25 @@ pub fn formula_size(
         k,
     };
     let capacity = Capacity::of(alloc, &frame)?;
-    sizes_with(alloc, &frame, &capacity)
+    sizes_with(alloc, &frame, first_sizes(&frame), &capacity)
 }
 
-/// The same with what the formula says of due classes.
-fn sizes_with(alloc: Global, frame: &Frame, capacity: &Capacity) -> Result<Sizes, NoMemory>
+/// The same with the counts of the first parts, and with what the formula says of due classes.
+fn sizes_with(
+    alloc: Global,
+    frame: &Frame,
+    first: FirstSizes,
+    capacity: &Capacity,
+) -> Result<Sizes, NoMemory>
     requires frame { IsFrame frame.now }
+    requires first { AreFirstSizes frame.now first }
     requires capacity { IsCapacityOf frame.now capacity.now }
     ensures vars { IfOk result (λ sizes. sizes.vars ≡ (by_list frame.now whole_formula).vars) }
     ensures clauses { IfOk result (λ sizes. sizes.clauses ≡ length (by_list frame.now whole_formula).clauses) }
     ensures few { IfOk result (λ sizes. (sizes.vars < 2 ^ 62) × (sizes.clauses < 2 ^ 63 + 2 ^ 62 + 2 ^ 61)) }
 {
     counts_are_found();
-    let cycle = cycle_sizes(frame);
-    let with_memory = both(cycle, memory_sizes(frame));
+    let with_memory = both(first.cycle, first.memory);
     let with_guard = both(with_memory, guard_sizes(frame));
     let with_pool = both(with_guard, pool_sizes(alloc, frame)?);
     let with_pins = both(with_pool, pins_sizes(frame));
@@ -110,9 +115,10 @@ pub fn build_formula(
         k,
     };
     let capacity = Capacity::of(alloc, &frame)?;
-    let sizes = sizes_with(alloc, &frame, &capacity)?;
+    let first = first_sizes(&frame);
+    let sizes = sizes_with(alloc, &frame, first, &capacity)?;
     sizes.within_limits()?;
-    Ok(build_whole(alloc, &frame, &capacity)?)
+    Ok(build_whole(alloc, &frame, first, &capacity)?)
 }
 
 /// The whole formula of schedules in k cycles: cycles, slots and values, memory, the branch of a guard, registers, and
@@ -189,8 +195,14 @@ pub fn full_as(
 }
 
 /// Builds the whole formula of a scope, whose counts are within the limits.
-fn build_whole(alloc: Global, frame: &Frame, capacity: &Capacity) -> Result<Encoded, NoMemory>
+fn build_whole(
+    alloc: Global,
+    frame: &Frame,
+    sizes: FirstSizes,
+    capacity: &Capacity,
+) -> Result<Encoded, NoMemory>
     requires frame { IsFrame frame.now }
+    requires sizes { AreFirstSizes frame.now sizes }
     requires capacity { IsCapacityOf frame.now capacity.now }
     requires within { ¬ IsTooLarge (formula_in frame.now.scope.now frame.now.facts.now frame.now.table.now frame.now.k) }
     ensures formula { IfOk result (λ e. e.cnf ≡ formula_in frame.now.scope.now frame.now.facts.now frame.now.table.now
@@ -205,10 +217,12 @@ fn build_whole(alloc: Global, frame: &Frame, capacity: &Capacity) -> Result<Enco
     let encoded = build_cycles(alloc, frame)?;
     let mut cnf = encoded.cnf;
     let plan = encoded.plan;
+    let over = overwritten_vars(alloc, frame.facts, frame.k, plan.overwritten())?;
     let layout = Plan {
         frame: *frame,
+        sizes,
         launches: plan.launches(),
-        overwritten: plan.overwritten(),
+        over: &over,
         capacity,
     };
     for part in &PARTS {

@@ -54,7 +54,7 @@ extend-requires-clause-overwritten c =
     let k = c.args.encoded.plan.cycles in
     let s = c.args.frame.now.scope.now in
     let f = c.args.encoded.cnf in
-    subst (λ n. KnowsOverwritten p n (listed_in g table j s)) (sym c.overwritten.ensures)
+    subst (λ n. KnowsOverwritten p n (listed_in g table j s)) (sym (c.in_ok-over.ensures.first ∙ c.overwritten.ensures))
     (subst (λ n. KnowsOverwritten p c.args.encoded.plan.overwritten (listed_in g table n s)) (sym c.requires.k) c.requires.overwritten)
 
 pub extend-requires-clause-within : goal.extend-requires-clause-within
@@ -107,4 +107,10 @@ extend-requires-clause-capacity c = record {
   is = c.in_ok-capacity.ensures.value;
   small = c.in_ok-capacity.ensures.small;
   apart = c.in_ok-capacity.ensures.apart;
+}
+
+pub extend-requires-clause-over : goal.extend-requires-clause-over
+extend-requires-clause-over c = record {
+  cycles_are = c.in_ok-over.ensures.cycles;
+  sets_are = c.in_ok-over.ensures.sets;
 }

@@ -8,8 +8,9 @@ use Rattle.cycle_encoding.specs.Plans.{IsTooLarge}
 use Rattle.cycle_encoding.proofs.Built.{on_ok_more}
 use Rattle.order_encoding.specs.WholeFormula.{KnowsOverwritten, memory_formula, pins_formula, pool_formula, with_part}
 use Rattle.order_encoding.specs.declared.adding.Part.TheVariants.{Memory, Guard, Pool, Pins, Capacity}
-use Rattle.order_encoding.proofs.Composed.{come_within, launches_within, over_within, memory_pins}
-use Rattle.order_encoding.proofs.Limits.{capacity_is, guard_is, memory_is, pins_is, within_vars}
+use Rattle.order_encoding.proofs.Composed.{come_within, launches_within, over_within}
+use Rattle.order_encoding.proofs.Begins.{branches_are, branches_begin, branches_within, stores_are, stores_begin, stores_within}
+use Rattle.order_encoding.proofs.Limits.{capacity_is, guard_is, memory_is, pins_is}
 use Rattle.order_encoding.proofs.PartSteps.{after_named, before_named, clauses_named, vars_named}
 use Rattle.order_encoding.proofs.adding.extend.Goals as goal
 
@@ -129,7 +130,7 @@ extend_by_pool-requires-clause-overwritten c =
     let s = c.args.plan.now.frame.scope.now in
     let e = listed_in g table k s in
     let f = c.args.cnf.now in
-    subst (λ p. KnowsOverwritten p c.args.plan.now.overwritten e) c.in-Pool.is c.requires.overwritten
+    subst (λ p. KnowsOverwritten p c.args.plan.now.over.now.first e) c.in-Pool.is c.requires.overwritten
 
 pub extend_by_pool-requires-clause-within : goal.extend_by_pool-requires-clause-within
 extend_by_pool-requires-clause-within c =
@@ -151,22 +152,6 @@ returns-in-Pool c =
     let f = c.args.cnf.now in
     on_ok_more _ _ c.extend_by_pool.result (λ new. after_named c.args.part Pool c.in-Pool.is g table k s c.extend_by_pool.new.cnf new) c.extend_by_pool.ensures
 
-pub before_stores-stores-requires-clause-few : goal.before_stores-stores-requires-clause-few
-before_stores-stores-requires-clause-few c =
-    let g = c.args.plan.now.frame.facts.now in
-    let table = c.args.plan.now.frame.table.now in
-    let k = c.args.plan.now.frame.k in
-    let e = listed_in g table k c.args.plan.now.frame.scope.now in
-    let within = subst (λ p. IsTooLarge (with_part p g table k e) → ⊥) c.in-Pins.is c.requires.within in
-    let most = within_vars (memory_formula g table k e) (λ t. within (memory_pins g table k e t)) in
-    omega arith
-
-pub before_branch-branches-requires-clause-few : goal.before_branch-branches-requires-clause-few
-before_branch-branches-requires-clause-few c =
-    let e = listed_in c.args.plan.now.frame.facts.now c.args.plan.now.frame.table.now c.args.plan.now.frame.k c.args.plan.now.frame.scope.now in
-    let within = subst (λ p. IsTooLarge (with_part p c.args.plan.now.frame.facts.now c.args.plan.now.frame.table.now c.args.plan.now.frame.k e) → ⊥) c.in-Pins.is c.requires.within in
-    within_vars (memory_formula c.args.plan.now.frame.facts.now c.args.plan.now.frame.table.now c.args.plan.now.frame.k e) (λ t. within (memory_pins c.args.plan.now.frame.facts.now c.args.plan.now.frame.table.now c.args.plan.now.frame.k e t))
-
 pub extend_by_pins-requires-clause-launches : goal.extend_by_pins-requires-clause-launches
 extend_by_pins-requires-clause-launches c =
     let g = c.args.plan.now.frame.facts.now in
@@ -176,8 +161,8 @@ extend_by_pins-requires-clause-launches c =
     let e = listed_in g table k s in
     let f = c.args.cnf.now in
     let before = before_named c.args.part Pins c.in-Pins.is g table k s f c.requires.formula in
-    let over : c.args.plan.now.overwritten ≡ before_overwritten e = subst (λ p. KnowsOverwritten p c.args.plan.now.overwritten e) c.in-Pins.is c.requires.overwritten in
-    let branches = c.before_branch-branches.ensures in
+    let over : c.args.plan.now.over.now.first ≡ before_overwritten e = subst (λ p. KnowsOverwritten p c.args.plan.now.over.now.first e) c.in-Pins.is c.requires.overwritten in
+    let branches = branches_are c.args.plan.now.frame c.args.plan.now.sizes c.requires.sizes (c.parts_are_counted.ensures.memory_vars g table k s) in
     let long = ap (λ (ls : List Launch). length ls) c.requires.launches in
     omega arith
 
@@ -190,8 +175,8 @@ extend_by_pins-requires-clause-exist c =
     let e = listed_in g table k s in
     let f = c.args.cnf.now in
     let before = before_named c.args.part Pins c.in-Pins.is g table k s f c.requires.formula in
-    let over : c.args.plan.now.overwritten ≡ before_overwritten e = subst (λ p. KnowsOverwritten p c.args.plan.now.overwritten e) c.in-Pins.is c.requires.overwritten in
-    let branches = c.before_branch-branches.ensures in
+    let over : c.args.plan.now.over.now.first ≡ before_overwritten e = subst (λ p. KnowsOverwritten p c.args.plan.now.over.now.first e) c.in-Pins.is c.requires.overwritten in
+    let branches = branches_are c.args.plan.now.frame c.args.plan.now.sizes c.requires.sizes (c.parts_are_counted.ensures.memory_vars g table k s) in
     let within = over_within g table k e in
     omega arith
 
@@ -204,8 +189,8 @@ extend_by_pins-requires-clause-branches c =
     let e = listed_in g table k s in
     let f = c.args.cnf.now in
     let before = before_named c.args.part Pins c.in-Pins.is g table k s f c.requires.formula in
-    let over : c.args.plan.now.overwritten ≡ before_overwritten e = subst (λ p. KnowsOverwritten p c.args.plan.now.overwritten e) c.in-Pins.is c.requires.overwritten in
-    let branches = c.before_branch-branches.ensures in
+    let over : c.args.plan.now.over.now.first ≡ before_overwritten e = subst (λ p. KnowsOverwritten p c.args.plan.now.over.now.first e) c.in-Pins.is c.requires.overwritten in
+    let branches = branches_are c.args.plan.now.frame c.args.plan.now.sizes c.requires.sizes (c.parts_are_counted.ensures.memory_vars g table k s) in
     let within = come_within g table k e in
     let many : f.vars ≡ (pool_formula g table k e).vars = ap (λ (x : Formula). x.vars) before in
     omega arith
@@ -219,9 +204,9 @@ extend_by_pins-requires-clause-vars c =
     let e = listed_in g table k s in
     let f = c.args.cnf.now in
     let before = before_named c.args.part Pins c.in-Pins.is g table k s f c.requires.formula in
-    let over : c.args.plan.now.overwritten ≡ before_overwritten e = subst (λ p. KnowsOverwritten p c.args.plan.now.overwritten e) c.in-Pins.is c.requires.overwritten in
-    let branches = c.before_branch-branches.ensures in
-    let is = pins_is g table k e c.args.plan.now.launches.now c.requires.launches f c.args.plan.now.overwritten c.before_branch-branches.result c.before_stores-stores.result over branches c.before_stores-stores.ensures before in
+    let over : c.args.plan.now.over.now.first ≡ before_overwritten e = subst (λ p. KnowsOverwritten p c.args.plan.now.over.now.first e) c.in-Pins.is c.requires.overwritten in
+    let branches = branches_are c.args.plan.now.frame c.args.plan.now.sizes c.requires.sizes (c.parts_are_counted.ensures.memory_vars g table k s) in
+    let is = pins_is g table k e c.args.plan.now.launches.now c.requires.launches f c.args.plan.now.over.now.first (branches_begin c.args.plan.now.frame c.args.plan.now.sizes c.requires.sizes) (stores_begin c.args.plan.now.frame c.args.plan.now.sizes c.requires.sizes) over branches (stores_are c.args.plan.now.frame c.args.plan.now.sizes c.requires.sizes (c.cycle_counts_are_found.ensures.vars g table k s)) before in
     subst (λ (x : Formula). x.vars ≤ most_vars) (sym is) (vars_named c.args.part Pins c.in-Pins.is g table k s c.requires.within)
 
 pub extend_by_pins-requires-clause-clauses : goal.extend_by_pins-requires-clause-clauses
@@ -233,9 +218,9 @@ extend_by_pins-requires-clause-clauses c =
     let e = listed_in g table k s in
     let f = c.args.cnf.now in
     let before = before_named c.args.part Pins c.in-Pins.is g table k s f c.requires.formula in
-    let over : c.args.plan.now.overwritten ≡ before_overwritten e = subst (λ p. KnowsOverwritten p c.args.plan.now.overwritten e) c.in-Pins.is c.requires.overwritten in
-    let branches = c.before_branch-branches.ensures in
-    let is = pins_is g table k e c.args.plan.now.launches.now c.requires.launches f c.args.plan.now.overwritten c.before_branch-branches.result c.before_stores-stores.result over branches c.before_stores-stores.ensures before in
+    let over : c.args.plan.now.over.now.first ≡ before_overwritten e = subst (λ p. KnowsOverwritten p c.args.plan.now.over.now.first e) c.in-Pins.is c.requires.overwritten in
+    let branches = branches_are c.args.plan.now.frame c.args.plan.now.sizes c.requires.sizes (c.parts_are_counted.ensures.memory_vars g table k s) in
+    let is = pins_is g table k e c.args.plan.now.launches.now c.requires.launches f c.args.plan.now.over.now.first (branches_begin c.args.plan.now.frame c.args.plan.now.sizes c.requires.sizes) (stores_begin c.args.plan.now.frame c.args.plan.now.sizes c.requires.sizes) over branches (stores_are c.args.plan.now.frame c.args.plan.now.sizes c.requires.sizes (c.cycle_counts_are_found.ensures.vars g table k s)) before in
     subst (λ (x : Formula). length x.clauses ≤ most_clauses) (sym is) (clauses_named c.args.part Pins c.in-Pins.is g table k s c.requires.within)
 
 pub returns-in-Pins : goal.returns-in-Pins
@@ -247,9 +232,9 @@ returns-in-Pins c =
     let e = listed_in g table k s in
     let f = c.args.cnf.now in
     let before = before_named c.args.part Pins c.in-Pins.is g table k s f c.requires.formula in
-    let over : c.args.plan.now.overwritten ≡ before_overwritten e = subst (λ p. KnowsOverwritten p c.args.plan.now.overwritten e) c.in-Pins.is c.requires.overwritten in
-    let branches = c.before_branch-branches.ensures in
-    let is = pins_is g table k e c.args.plan.now.launches.now c.requires.launches f c.args.plan.now.overwritten c.before_branch-branches.result c.before_stores-stores.result over branches c.before_stores-stores.ensures before in
+    let over : c.args.plan.now.over.now.first ≡ before_overwritten e = subst (λ p. KnowsOverwritten p c.args.plan.now.over.now.first e) c.in-Pins.is c.requires.overwritten in
+    let branches = branches_are c.args.plan.now.frame c.args.plan.now.sizes c.requires.sizes (c.parts_are_counted.ensures.memory_vars g table k s) in
+    let is = pins_is g table k e c.args.plan.now.launches.now c.requires.launches f c.args.plan.now.over.now.first (branches_begin c.args.plan.now.frame c.args.plan.now.sizes c.requires.sizes) (stores_begin c.args.plan.now.frame c.args.plan.now.sizes c.requires.sizes) over branches (stores_are c.args.plan.now.frame c.args.plan.now.sizes c.requires.sizes (c.cycle_counts_are_found.ensures.vars g table k s)) before in
     on_ok_more _ _ c.extend_by_pins.result (λ new. after_named c.args.part Pins c.in-Pins.is g table k s c.extend_by_pins.new.cnf (new ∙ is)) c.extend_by_pins.ensures
 
 pub extend_by_pins-requires-clause-before_stores : goal.extend_by_pins-requires-clause-before_stores
@@ -260,7 +245,7 @@ extend_by_pins-requires-clause-before_stores c =
     let s = c.args.plan.now.frame.scope.now in
     let e = listed_in g table k s in
     let f = c.args.cnf.now in
-    let stores = c.before_stores-stores.ensures in
+    let stores = stores_are c.args.plan.now.frame c.args.plan.now.sizes c.requires.sizes (c.cycle_counts_are_found.ensures.vars g table k s) in
     let long = ap (λ (ls : List Launch). length ls) c.requires.launches in
     omega arith
 
@@ -273,7 +258,7 @@ extend_by_pins-requires-clause-stores c =
     let e = listed_in g table k s in
     let f = c.args.cnf.now in
     let before = before_named c.args.part Pins c.in-Pins.is g table k s f c.requires.formula in
-    let stores = c.before_stores-stores.ensures in
+    let stores = stores_are c.args.plan.now.frame c.args.plan.now.sizes c.requires.sizes (c.cycle_counts_are_found.ensures.vars g table k s) in
     let within = come_within g table k e in
     let many : f.vars ≡ (pool_formula g table k e).vars = ap (λ (x : Formula). x.vars) before in
     omega arith
@@ -327,3 +312,43 @@ returns-in-Capacity c =
     let before = before_named c.args.part Capacity c.in-Capacity.is g table k s f c.requires.formula in
     let is = capacity_is g table k e c.args.plan.now.launches.now c.requires.launches f c.args.plan.now.capacity.now c.requires.capacity.is before in
     on_ok_more _ _ c.extend_by_capacity.result (λ new. after_named c.args.part Capacity c.in-Capacity.is g table k s c.extend_by_capacity.new.cnf (new ∙ is)) c.extend_by_capacity.ensures
+
+pub overflow_add-branches : goal.overflow_add-branches
+overflow_add-branches c =
+    let g = c.args.plan.now.frame.facts.now in
+    let table = c.args.plan.now.frame.table.now in
+    let k = c.args.plan.now.frame.k in
+    let s = c.args.plan.now.frame.scope.now in
+    let within = subst (λ p. IsTooLarge (with_part p g table k (listed_in g table k s)) → ⊥) c.in-Pins.is c.requires.within in
+    let few = branches_within c.args.plan.now.frame c.args.plan.now.sizes c.requires.sizes within (c.parts_are_counted.ensures.memory_vars g table k s) in
+    omega (arith, few)
+
+pub overflow_cast-branches : goal.overflow_cast-branches
+overflow_cast-branches c =
+    let g = c.args.plan.now.frame.facts.now in
+    let table = c.args.plan.now.frame.table.now in
+    let k = c.args.plan.now.frame.k in
+    let s = c.args.plan.now.frame.scope.now in
+    let within = subst (λ p. IsTooLarge (with_part p g table k (listed_in g table k s)) → ⊥) c.in-Pins.is c.requires.within in
+    let few = branches_within c.args.plan.now.frame c.args.plan.now.sizes c.requires.sizes within (c.parts_are_counted.ensures.memory_vars g table k s) in
+    omega (arith, few)
+
+pub overflow_add-stores : goal.overflow_add-stores
+overflow_add-stores c =
+    let g = c.args.plan.now.frame.facts.now in
+    let table = c.args.plan.now.frame.table.now in
+    let k = c.args.plan.now.frame.k in
+    let s = c.args.plan.now.frame.scope.now in
+    let within = subst (λ p. IsTooLarge (with_part p g table k (listed_in g table k s)) → ⊥) c.in-Pins.is c.requires.within in
+    let few = stores_within c.args.plan.now.frame c.args.plan.now.sizes c.requires.sizes within (c.cycle_counts_are_found.ensures.vars g table k s) in
+    omega (arith, few)
+
+pub overflow_cast-stores : goal.overflow_cast-stores
+overflow_cast-stores c =
+    let g = c.args.plan.now.frame.facts.now in
+    let table = c.args.plan.now.frame.table.now in
+    let k = c.args.plan.now.frame.k in
+    let s = c.args.plan.now.frame.scope.now in
+    let within = subst (λ p. IsTooLarge (with_part p g table k (listed_in g table k s)) → ⊥) c.in-Pins.is c.requires.within in
+    let few = stores_within c.args.plan.now.frame c.args.plan.now.sizes c.requires.sizes within (c.cycle_counts_are_found.ensures.vars g table k s) in
+    omega (arith, few)

@@ -19,7 +19,7 @@ extend_by_registers-requires-clause-exist c =
     let s = c.args.plan.now.frame.scope.now in
     let e = listed_in g table k s in
     let f = c.args.cnf.now in
-    let over = c.args.plan.now.overwritten in
+    let over = c.args.plan.now.over.now.first in
     let long = ap (λ (ls : List Launch). length ls) c.requires.launches in
     let many : f.vars ≡ (guard_formula g table k e).vars = ap (λ (x : Formula). x.vars) c.requires.formula in
     omega arith
@@ -32,7 +32,7 @@ extend_by_registers-requires-clause-vars c =
     let s = c.args.plan.now.frame.scope.now in
     let e = listed_in g table k s in
     let f = c.args.cnf.now in
-    let over = c.args.plan.now.overwritten in
+    let over = c.args.plan.now.over.now.first in
     let is = pool_is g table k e c.args.plan.now.launches.now c.requires.launches f over Block c.requires.overwritten c.in-Block.ensures c.requires.formula in
     subst (λ (x : Formula). x.vars ≤ most_vars) (sym is) (within_vars (pool_formula g table k e) c.requires.within)
 
@@ -44,7 +44,7 @@ extend_by_registers-requires-clause-clauses c =
     let s = c.args.plan.now.frame.scope.now in
     let e = listed_in g table k s in
     let f = c.args.cnf.now in
-    let over = c.args.plan.now.overwritten in
+    let over = c.args.plan.now.over.now.first in
     let is = pool_is g table k e c.args.plan.now.launches.now c.requires.launches f over Block c.requires.overwritten c.in-Block.ensures c.requires.formula in
     subst (λ (x : Formula). length x.clauses ≤ most_clauses) (sym is) (within_clauses (pool_formula g table k e) c.requires.within)
 
@@ -56,7 +56,7 @@ returns-in-Block c =
     let s = c.args.plan.now.frame.scope.now in
     let e = listed_in g table k s in
     let f = c.args.cnf.now in
-    let over = c.args.plan.now.overwritten in
+    let over = c.args.plan.now.over.now.first in
     let is = pool_is g table k e c.args.plan.now.launches.now c.requires.launches f over Block c.requires.overwritten c.in-Block.ensures c.requires.formula in
     on_ok_more _ _ c.extend_by_registers.result (λ new. new ∙ is) c.extend_by_registers.ensures
 
@@ -68,7 +68,7 @@ extend_by_live_ranges-requires-clause-vars c =
     let s = c.args.plan.now.frame.scope.now in
     let e = listed_in g table k s in
     let f = c.args.cnf.now in
-    let over = c.args.plan.now.overwritten in
+    let over = c.args.plan.now.over.now.first in
     let is = pool_is g table k e c.args.plan.now.launches.now c.requires.launches f over Live c.requires.overwritten c.in-Live.ensures c.requires.formula in
     subst (λ (x : Formula). x.vars ≤ most_vars) (sym is) (within_vars (pool_formula g table k e) c.requires.within)
 
@@ -80,7 +80,7 @@ extend_by_live_ranges-requires-clause-clauses c =
     let s = c.args.plan.now.frame.scope.now in
     let e = listed_in g table k s in
     let f = c.args.cnf.now in
-    let over = c.args.plan.now.overwritten in
+    let over = c.args.plan.now.over.now.first in
     let is = pool_is g table k e c.args.plan.now.launches.now c.requires.launches f over Live c.requires.overwritten c.in-Live.ensures c.requires.formula in
     subst (λ (x : Formula). length x.clauses ≤ most_clauses) (sym is) (within_clauses (pool_formula g table k e) c.requires.within)
 
@@ -92,7 +92,7 @@ returns-in-Live c =
     let s = c.args.plan.now.frame.scope.now in
     let e = listed_in g table k s in
     let f = c.args.cnf.now in
-    let over = c.args.plan.now.overwritten in
+    let over = c.args.plan.now.over.now.first in
     let is = pool_is g table k e c.args.plan.now.launches.now c.requires.launches f over Live c.requires.overwritten c.in-Live.ensures c.requires.formula in
     on_ok_more _ _ c.extend_by_live_ranges.result (λ new. new ∙ is) c.extend_by_live_ranges.ensures
 
@@ -104,7 +104,7 @@ extend_by_live_ranges-requires-clause-launches c =
     let s = c.args.plan.now.frame.scope.now in
     let e = listed_in g table k s in
     let f = c.args.cnf.now in
-    let over = c.args.plan.now.overwritten in
+    let over = c.args.plan.now.over.now.first in
     let long = ap (λ (ls : List Launch). length ls) c.requires.launches in
     let many : f.vars ≡ (guard_formula g table k e).vars = ap (λ (x : Formula). x.vars) c.requires.formula in
     let at = c.requires.overwritten in
@@ -118,7 +118,7 @@ extend_by_live_ranges-requires-clause-exist c =
     let s = c.args.plan.now.frame.scope.now in
     let e = listed_in g table k s in
     let f = c.args.cnf.now in
-    let over = c.args.plan.now.overwritten in
+    let over = c.args.plan.now.over.now.first in
     let long = ap (λ (ls : List Launch). length ls) c.requires.launches in
     let many : f.vars ≡ (guard_formula g table k e).vars = ap (λ (x : Formula). x.vars) c.requires.formula in
     let at = c.requires.overwritten in

@@ -1,9 +1,8 @@
-use Rattle.std.proofs.Common.{◌≡◌, ◌∙◌, ◌+◌, ◌*◌, ◌-◌, ◌<◌, ◌≤◌, ◌∷◌, [], List, ap, inl, inr, arith}
+use Rattle.std.proofs.Common.{◌≡◌, ◌∙◌, ◌+◌, ◌*◌, ◌-◌, ◌<◌, ◌∷◌, [], ap, inl, inr, arith}
 use Rattle.std.specs.Prelude.{length}
-use Rattle.cnf_core.specs.declared.literal.Lit.{Lit}
 use Rattle.cycle_encoding.specs.Shapes.{positive}
 use Rattle.order_encoding.specs.OrderSteps.{starts_before}
-use Rattle.order_encoding.proofs.HoldPlaces.{no-hold-slot, no-hold-cycle, hold-is, hold-within}
+use Rattle.order_encoding.proofs.HoldPlaces.{no-hold-slot, no-hold-cycle, hold-is}
 use Rattle.order_encoding.proofs.holds.hold_var.Goals as goal
 
 pub returns-then-slot-len : goal.returns-then-slot-len

@@ -13,7 +13,7 @@ loop-start-preserved c =
     let one : ℕ → List Lit = λ start. vars_of (is_hold_at c.args.slot start c.args.cycle) hs in
     let n = c.loop-start.start in
     let old = c.args.lits.now.items in
-    c.in_ok-push_option.ensures ∙ ap (λ (ls : List Lit). c.loop-start.lits.items ++ ls) c.hold_var.ensures
+    c.in_ok-push_lit.ensures ∙ ap (λ (ls : List Lit). c.loop-start.lits.items ++ ls) c.hold_var.ensures
     ∙ ap (λ (ls : List Lit). ls ++ one n) c.loop-start.invariant ∙ append_assoc old (flat_map one (range_with_len 0 n)) (one n) ∙ ap (λ (ls : List Lit). old ++ ls) (sym (flat_more one n))
 
 pub returns : goal.returns

@@ -1,4 +1,4 @@
-use Rattle.std.proofs.Common.{◌≡◌, ◌+◌, ap, arith}
+use Rattle.std.proofs.Common.{◌≡◌, ap, arith}
 use Rattle.order_encoding.specs.OrderSteps.{starts_before}
 use Rattle.order_encoding.proofs.HoldPlaces.{starts-more}
 use Rattle.order_encoding.proofs.holds.starts_before.Goals as goal

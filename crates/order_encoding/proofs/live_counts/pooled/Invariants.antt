@@ -1,5 +1,4 @@
-use Rattle.std.proofs.Common.{◌≡◌, map}
-use Rattle.std.specs.List.{range_with_len}
+use Rattle.std.proofs.Common.{◌≡◌}
 use Rattle.graph_meaning.specs.WellFormed.{next_class}
 use Rattle.order_encoding.proofs.LiveTallies.{pooled_below}
 use Rattle.order_encoding.proofs.live_counts.pooled.Given as goal

@@ -12,7 +12,7 @@ returns-then-not-is_needed_target c =
     let xs = numbered 0 c.args.live.now.launches.now in
     let needs = all_needs k (pooled_classes g xs) in
     let ns = numbered c.args.live.now.needs.first needs in
-    let over = c.args.live.now.over in
+    let over = c.args.live.now.over.now in
     let vs = numbered over.first (all_overwritten g over.cycles) in
     not_made g k xs ns vs c.args.set.now c.args.cnf.now (sym c.is_needed_target.ensures ∙ c.if-not-is_needed_target.true)
 
@@ -23,7 +23,7 @@ returns-then-not-is_pooled c =
     let xs = numbered 0 c.args.live.now.launches.now in
     let needs = all_needs k (pooled_classes g xs) in
     let ns = numbered c.args.live.now.needs.first needs in
-    let over = c.args.live.now.over in
+    let over = c.args.live.now.over.now in
     let vs = numbered over.first (all_overwritten g over.cycles) in
     not_pooled g k xs ns vs c.args.set.now c.args.cnf.now (sym c.is_pooled.ensures ∙ c.if-not-is_pooled.true)
 
@@ -34,7 +34,7 @@ add-requires-clause-exist c =
     let xs = numbered 0 c.args.live.now.launches.now in
     let needs = all_needs k (pooled_classes g xs) in
     let ns = numbered c.args.live.now.needs.first needs in
-    let over = c.args.live.now.over in
+    let over = c.args.live.now.over.now in
     let vs = numbered over.first (all_overwritten g over.cycles) in
     clause_exist g c.args.set.now.class c.args.cnf.now.vars k c.args.live.now.needs.first over.first needs (all_overwritten g over.cycles) c.deref.result.now (c.deref.ensures.value ∙ c.in_ok-clause.ensures) c.requires.exist c.requires.overwritten
 
@@ -45,7 +45,7 @@ add-requires-clause-room c =
     let xs = numbered 0 c.args.live.now.launches.now in
     let needs = all_needs k (pooled_classes g xs) in
     let ns = numbered c.args.live.now.needs.first needs in
-    let over = c.args.live.now.over in
+    let over = c.args.live.now.over.now in
     let vs = numbered over.first (all_overwritten g over.cycles) in
     let r = target_room g k xs ns vs c.args.set.now _ (sym c.is_needed_target.ensures ∙ c.if-not-is_needed_target.false) (sym c.is_pooled.ensures ∙ c.if-not-is_pooled.false) c.requires.room in
     omega arith
@@ -57,6 +57,6 @@ returns c =
     let xs = numbered 0 c.args.live.now.launches.now in
     let needs = all_needs k (pooled_classes g xs) in
     let ns = numbered c.args.live.now.needs.first needs in
-    let over = c.args.live.now.over in
+    let over = c.args.live.now.over.now in
     let vs = numbered over.first (all_overwritten g over.cycles) in
     target_added g k xs ns vs c.add.result c.args.cnf.now c.add.new.self c.args.set.now c.deref.result.now (sym c.is_needed_target.ensures ∙ c.if-not-is_needed_target.false) (sym c.is_pooled.ensures ∙ c.if-not-is_pooled.false) (c.deref.ensures.value ∙ c.in_ok-clause.ensures) c.add.ensures.ok

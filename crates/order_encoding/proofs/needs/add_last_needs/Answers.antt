@@ -1,4 +1,4 @@
-use Rattle.std.proofs.Common.{◌≡◌, ◌<◌, ◌≤◌, ◌∙◌, List, ap, get_or, subst, sym}
+use Rattle.std.proofs.Common.{◌≤◌, ◌∙◌, List, ap, subst}
 use Rattle.std.specs.Prelude.{length}
 use Rattle.std.proofs.lemmas.List.{take_all}
 use Rattle.graph_meaning.specs.declared.graphs.LaunchGraph.{LaunchGraph}
@@ -17,7 +17,7 @@ add_last_need-requires-clause-room c =
     let k = c.args.live.now.needs.cycles in
     let xs = numbered 0 c.args.live.now.launches.now in
     let ns = numbered c.args.live.now.needs.first (all_needs k (pooled_classes g xs)) in
-    let vs = numbered c.args.live.now.over.first (all_overwritten g c.args.live.now.over.cycles) in
+    let vs = numbered c.args.live.now.over.now.first (all_overwritten g c.args.live.now.over.now.cycles) in
     last_room g k xs ns vs c.as_slice-set-items.result.now g.sets c.loop-set.set-index c.set-item.result c.args.cnf.now c.loop-set.cnf (c.as_slice-set-items.ensures ∙ ap (λ (g : LaunchGraph). g.sets) c.graph.ensures) c.loop-set-test.true c.set-item.is c.loop-set.invariant c.requires.room
 
 pub loop-set-preserved : goal.loop-set-preserved
@@ -26,7 +26,7 @@ loop-set-preserved c =
     let k = c.args.live.now.needs.cycles in
     let xs = numbered 0 c.args.live.now.launches.now in
     let ns = numbered c.args.live.now.needs.first (all_needs k (pooled_classes g xs)) in
-    let vs = numbered c.args.live.now.over.first (all_overwritten g c.args.live.now.over.cycles) in
+    let vs = numbered c.args.live.now.over.now.first (all_overwritten g c.args.live.now.over.now.cycles) in
     last_step g k xs ns vs c.as_slice-set-items.result.now g.sets c.loop-set.set-index c.set-item.result c.args.cnf.now c.loop-set.cnf (c.as_slice-set-items.ensures ∙ ap (λ (g : LaunchGraph). g.sets) c.graph.ensures) c.loop-set-test.true c.set-item.is c.loop-set.invariant c.add_last_need.new.cnf c.in_ok-add_last_need.ensures
 
 pub returns : goal.returns
@@ -35,6 +35,6 @@ returns c =
     let k = c.args.live.now.needs.cycles in
     let xs = numbered 0 c.args.live.now.launches.now in
     let ns = numbered c.args.live.now.needs.first (all_needs k (pooled_classes g xs)) in
-    let vs = numbered c.args.live.now.over.first (all_overwritten g c.args.live.now.over.cycles) in
+    let vs = numbered c.args.live.now.over.now.first (all_overwritten g c.args.live.now.over.now.cycles) in
     let same = c.as_slice-set-items.ensures ∙ ap (λ (g : LaunchGraph). g.sets) c.graph.ensures in
     c.loop-set.invariant ∙ ap (λ (sets : List SetClass). with_clauses c.args.cnf.now (target_groups g k xs ns vs sets)) (take_all c.loop-set.set-index g.sets (subst (λ (sets : List SetClass). length sets ≤ c.loop-set.set-index) same c.loop-set-test.false))

@@ -1,4 +1,4 @@
-use Rattle.std.proofs.Common.{◌≡◌, ◌≤◌, ◌<◌, ◌∙◌, List, ap, arith}
+use Rattle.std.proofs.Common.{◌≤◌, ◌<◌, ◌∙◌, List, ap, arith}
 use Rattle.std.specs.Prelude.{length}
 use Rattle.std.proofs.lemmas.List.{take_all}
 use Rattle.graph_meaning.specs.declared.graphs.LaunchGraph.{LaunchGraph}
@@ -7,7 +7,7 @@ use Rattle.schedule_meaning.specs.declared.schedules.Operand.{Operand}
 use Rattle.cycle_encoding.specs.Shapes.{numbered}
 use Rattle.cycle_encoding.specs.Steps.{of_thing, with_clauses}
 use Rattle.order_encoding.specs.LiveVariables.{all_needs, pooled_classes}
-use Rattle.order_encoding.specs.LiveFamilies.{needs_of}
+use Rattle.order_encoding.specs.LiveFamilies.{operands_needed}
 use Rattle.order_encoding.proofs.NeedSteps.{operand_step, operand_room}
 use Rattle.order_encoding.proofs.needs.add_launch_needs.Goals as goal
 
@@ -41,4 +41,4 @@ returns c =
     let ns = numbered c.args.live.now.needs.first (all_needs c.args.live.now.needs.cycles (pooled_classes g xs)) in
     let count = c.operand_count-at-end.ensures ∙ ap (λ (g : LaunchGraph). length (operands_at g row)) c.graph.ensures in
     let all : length (operands_at g row) ≤ c.loop-at.at = (let a = c.loop-at-test.false in omega arith) in
-    c.loop-at.invariant ∙ ap (λ (os : List Operand). with_clauses c.args.cnf.now (of_thing c.args.made.var (needs_of g xs ns c.args.made.launch.cycle os))) (take_all c.loop-at.at (operands_at g row) all)
+    c.loop-at.invariant ∙ ap (λ (os : List Operand). with_clauses c.args.cnf.now (of_thing c.args.made.var (operands_needed g xs ns c.args.made.launch.cycle os))) (take_all c.loop-at.at (operands_at g row) all)

@@ -1,10 +1,9 @@
 use Rattle.std.proofs.Common.{◌∷◌, [], ◌∙◌, sym}
 use Rattle.std.specs.Prelude.{option_to_list}
-use Rattle.cnf_core.specs.declared.literal.Lit.{Lit}
 use Rattle.cycle_encoding.specs.Shapes.{negative, numbered}
 use Rattle.cycle_encoding.specs.Steps.{of_thing}
 use Rattle.order_encoding.specs.LiveVariables.{all_needs, pooled_classes}
-use Rattle.order_encoding.specs.LiveFamilies.{is_need_at, needs_of}
+use Rattle.order_encoding.specs.LiveFamilies.{is_need_at, operands_needed}
 use Rattle.order_encoding.proofs.AddSteps.{lits_exist, then_is}
 use Rattle.order_encoding.proofs.NeedSteps.{free_need, unpooled_need, due_need}
 use Rattle.order_encoding.proofs.needs.add_need_of.Goals as goal
@@ -35,5 +34,5 @@ returns c =
     let g = c.args.live.now.facts.now in
     let xs = numbered 0 c.args.live.now.launches.now in
     let ns = numbered c.args.live.now.needs.first (all_needs c.args.live.now.needs.cycles (pooled_classes g xs)) in
-    then_is c.add_implied.result c.args.cnf.now c.add_implied.new.cnf ((negative c.args.var ∷ option_to_list c.need_var-need.result) ∷ []) (of_thing c.args.var (needs_of g xs ns c.args.cycle (c.args.operand ∷ [])))
+    then_is c.add_implied.result c.args.cnf.now c.add_implied.new.cnf ((negative c.args.var ∷ option_to_list c.need_var-need.result) ∷ []) (of_thing c.args.var (operands_needed g xs ns c.args.cycle (c.args.operand ∷ [])))
     (due_need g xs ns c.args.cycle c.args.operand c.args.var (option_to_list c.need_var-need.result) (sym c.is_free.ensures ∙ c.if-is_free.false) (sym c.is_pooled.ensures ∙ c.if-not-is_pooled.false) c.need_var-need.ensures) c.add_implied.ensures

@@ -1,4 +1,4 @@
-use Rattle.std.proofs.Common.{◌≡◌, ◌<◌, ◌≤◌, ◌∙◌, List, Option, ℕ, get_or, length, ap, subst}
+use Rattle.std.proofs.Common.{◌<◌, ◌≤◌, ◌∙◌, List, Option, ℕ, get_or, length, ap, subst}
 use Rattle.order_encoding.proofs.NeedTables.{table-at, table-past, table-tells}
 use Rattle.order_encoding.proofs.needs.is_pooled.Goals as goal
 

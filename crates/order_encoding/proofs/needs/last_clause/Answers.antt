@@ -1,4 +1,4 @@
-use Rattle.std.proofs.Common.{◌≡◌, ◌∙◌, ◌++◌, ◌-◌, ℕ, List, ap}
+use Rattle.std.proofs.Common.{◌∙◌, ◌++◌, ◌-◌, List, ap}
 use Rattle.cnf_core.specs.declared.literal.Lit.{Lit}
 use Rattle.cycle_encoding.specs.Families.{is_lost}
 use Rattle.cycle_encoding.specs.Shapes.{negated, numbered, vars_of}
@@ -13,7 +13,7 @@ returns c =
     let k = c.args.live.now.needs.cycles in
     let class = c.args.class in
     let ns = numbered c.args.live.now.needs.first (all_needs k (pooled_classes g (numbered 0 c.args.live.now.launches.now))) in
-    let vs = numbered c.args.live.now.over.first (all_overwritten g c.args.live.now.over.cycles) in
+    let vs = numbered c.args.live.now.over.now.first (all_overwritten g c.args.live.now.over.now.cycles) in
     let need = c.need_var.ensures ∙ ap (λ t. vars_of (is_need_at class t) ns) c.saturating_sub-last.ensures in
-    c.in_ok-push_lost.ensures ∙ ap (λ n. c.push_option.new.lits.items ++ negated (is_lost g class n) vs) c.from.ensures
-    ∙ ap (λ (ls : List Lit). ls ++ negated (is_lost g class k) vs) (c.in_ok-push_option.ensures ∙ ap (λ (ls : List Lit). c.new-clause.result.items ++ ls) need ∙ ap (λ (ls : List Lit). ls ++ vars_of (is_need_at class (k - 1)) ns) c.new-clause.ensures.items)
+    c.in_ok-push_lost.ensures ∙ ap (λ n. c.push_lit.new.lits.items ++ negated (is_lost g class n) vs) c.from.ensures
+    ∙ ap (λ (ls : List Lit). ls ++ negated (is_lost g class k) vs) (c.in_ok-push_lit.ensures ∙ ap (λ (ls : List Lit). c.new-clause.result.items ++ ls) need ∙ ap (λ (ls : List Lit). ls ++ vars_of (is_need_at class (k - 1)) ns) c.new-clause.ensures.items)

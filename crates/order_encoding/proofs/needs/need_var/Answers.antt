@@ -1,4 +1,4 @@
-use Rattle.std.proofs.Common.{◌+◌, ◌≤◌, ◌<◌, ◌≡◌, List, Option, None, ℕ, ◌∙◌, get_or, length, subst, ap, sym, arith}
+use Rattle.std.proofs.Common.{◌<◌, ◌≡◌, List, Option, None, ℕ, ◌∙◌, get_or, length, subst, ap, sym, arith}
 use Rattle.graph_meaning.specs.WellFormed.{next_class}
 use Rattle.cycle_encoding.specs.Shapes.{numbered}
 use Rattle.order_encoding.specs.LiveVariables.{is_pooled}

@@ -1,4 +1,4 @@
-use Rattle.std.proofs.Common.{◌≡◌, ◌+◌, ◌*◌, ◌≤◌, length, map}
+use Rattle.std.proofs.Common.{◌≡◌, ◌*◌, ◌≤◌, length, map}
 use Rattle.std.specs.List.{filter, range_with_len}
 use Rattle.cycle_encoding.specs.Shapes.{numbered}
 use Rattle.order_encoding.specs.LiveVariables.{is_pooled}

@@ -1,6 +1,5 @@
-use Rattle.std.proofs.Common.{◌∙◌, List, Option, Bool, ap, get_or, map, false, ◌&&◌}
+use Rattle.std.proofs.Common.{◌∙◌, Option, ap, get_or, false, ◌&&◌}
 use Rattle.std.specs.Option.{option_map_or}
-use Rattle.std.specs.List.{range_with_len}
 use Rattle.machine_table.specs.declared.tables.InstrKind.{InstrKind}
 use Rattle.graph_meaning.specs.WellFormed.{next_class}
 use Rattle.graph_meaning.specs.declared.graphs.LaunchGraph.{LaunchGraph}

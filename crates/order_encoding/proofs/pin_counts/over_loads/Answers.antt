@@ -1,9 +1,7 @@
-use Rattle.std.proofs.Common.{◌≡◌, ◌∙◌, ◌&&◌, ℕ, Option, false, sym, ap}
+use Rattle.std.proofs.Common.{◌∙◌, Option, false, sym, ap}
 use Rattle.std.specs.Option.{option_map_or}
-use Rattle.std.specs.List.{sum_by}
 use Rattle.machine_table.specs.declared.tables.InstrKind.{InstrKind}
 use Rattle.schedule_meaning.specs.Launches.{is_load}
-use Rattle.cycle_encoding.specs.Counts.{row_destinations, row_is}
 use Rattle.order_encoding.proofs.DestinedSteps.{load_overs, no_load_overs}
 use Rattle.order_encoding.proofs.pin_counts.over_loads.Goals as goal
 

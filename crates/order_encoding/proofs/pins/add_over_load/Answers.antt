@@ -1,5 +1,5 @@
-use Rattle.std.proofs.Common.{◌==◌, ◌∷◌, ◌&&◌, [], ◌∙◌, List, ℕ, ap, map, subst, sym, arith}
-use Rattle.std.specs.Prelude.{length, option_to_list}
+use Rattle.std.proofs.Common.{◌==◌, ◌∷◌, ◌&&◌, [], ◌∙◌, List, ap, map, subst, sym, arith}
+use Rattle.std.specs.Prelude.{option_to_list}
 use Rattle.std.specs.List.{All, range_with_len}
 use Rattle.std.proofs.lemmas.List.FromFn.{length-range_with_len}
 use Rattle.cnf_core.specs.declared.literal.Lit.{Lit}

@@ -19,7 +19,7 @@ pub add_set-requires-clause-launches : goal.add_set-requires-clause-launches
 add_set-requires-clause-launches c =
     let g = c.args.plan.now.frame.facts.now in
     let k = c.args.plan.now.frame.k in
-    let first = c.args.plan.now.overwritten in
+    let first = c.args.plan.now.over.now.first in
     let j = c.loop-set.set in
     let ls = c.args.plan.now.launches.now in
     let xs = numbered 0 ls in
@@ -37,7 +37,7 @@ pub add_set-requires-clause-exist : goal.add_set-requires-clause-exist
 add_set-requires-clause-exist c =
     let g = c.args.plan.now.frame.facts.now in
     let k = c.args.plan.now.frame.k in
-    let first = c.args.plan.now.overwritten in
+    let first = c.args.plan.now.over.now.first in
     let j = c.loop-set.set in
     let ls = c.args.plan.now.launches.now in
     let xs = numbered 0 ls in
@@ -57,7 +57,7 @@ pub add_set-requires-clause-few : goal.add_set-requires-clause-few
 add_set-requires-clause-few c =
     let g = c.args.plan.now.frame.facts.now in
     let k = c.args.plan.now.frame.k in
-    let first = c.args.plan.now.overwritten in
+    let first = c.args.plan.now.over.now.first in
     let j = c.loop-set.set in
     let ls = c.args.plan.now.launches.now in
     let xs = numbered 0 ls in
@@ -76,7 +76,7 @@ pub add_set-requires-clause-room : goal.add_set-requires-clause-room
 add_set-requires-clause-room c =
     let g = c.args.plan.now.frame.facts.now in
     let k = c.args.plan.now.frame.k in
-    let first = c.args.plan.now.overwritten in
+    let first = c.args.plan.now.over.now.first in
     let j = c.loop-set.set in
     let ls = c.args.plan.now.launches.now in
     let xs = numbered 0 ls in
@@ -97,7 +97,7 @@ pub returns : goal.returns
 returns c =
     let g = c.args.plan.now.frame.facts.now in
     let k = c.args.plan.now.frame.k in
-    let S = set_clauses k (numbered 0 c.args.plan.now.launches.now) (numbered c.args.plan.now.overwritten (all_overwritten g k)) in
+    let S = set_clauses k (numbered 0 c.args.plan.now.launches.now) (numbered c.args.plan.now.over.now.first (all_overwritten g k)) in
     let end = c.set_count-set-end.ensures in
     let e : c.loop-set.set ≡ length g.sets = (let a = c.loop-set.auto.set-end in let b = c.loop-set-test.false in omega arith) in
     c.loop-set.invariant.cnf ∙ ap (λ n. with_clauses c.args.cnf.now (flat_map S (filter (is_overwriting g) (range_with_len 0 n)))) e
@@ -106,7 +106,7 @@ pub overflow_add-before-then-is_overwriting : goal.overflow_add-before-then-is_o
 overflow_add-before-then-is_overwriting c =
     let g = c.args.plan.now.frame.facts.now in
     let k = c.args.plan.now.frame.k in
-    let first = c.args.plan.now.overwritten in
+    let first = c.args.plan.now.over.now.first in
     let j = c.loop-set.set in
     let ls = c.args.plan.now.launches.now in
     let xs = numbered 0 ls in
@@ -126,7 +126,7 @@ pub loop-set-preserved : goal.loop-set-preserved
 loop-set-preserved c =
     let g = c.args.plan.now.frame.facts.now in
     let k = c.args.plan.now.frame.k in
-    let first = c.args.plan.now.overwritten in
+    let first = c.args.plan.now.over.now.first in
     let j = c.loop-set.set in
     let ls = c.args.plan.now.launches.now in
     let xs = numbered 0 ls in

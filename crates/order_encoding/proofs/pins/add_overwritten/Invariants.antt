@@ -9,6 +9,6 @@ use Rattle.order_encoding.proofs.pins.add_overwritten.Given as goal
 
 abbrev pub invariant-loop-set : goal.invariant-loop-set
 invariant-loop-set l = record {
-  before : l.before ≡ l.plan.overwritten + length (flat_map (set_overwritten l.plan.frame.k) (filter (is_overwriting l.plan.frame.facts.now) (range_with_len 0 l.set)));
-  cnf : l.cnf ≡ with_clauses l.initial.cnf (flat_map (set_clauses l.plan.frame.k (numbered 0 l.plan.launches.now) (numbered l.plan.overwritten (all_overwritten l.plan.frame.facts.now l.plan.frame.k))) (filter (is_overwriting l.plan.frame.facts.now) (range_with_len 0 l.set)));
+  before : l.before ≡ l.plan.over.now.first + length (flat_map (set_overwritten l.plan.frame.k) (filter (is_overwriting l.plan.frame.facts.now) (range_with_len 0 l.set)));
+  cnf : l.cnf ≡ with_clauses l.initial.cnf (flat_map (set_clauses l.plan.frame.k (numbered 0 l.plan.launches.now) (numbered l.plan.over.now.first (all_overwritten l.plan.frame.facts.now l.plan.frame.k))) (filter (is_overwriting l.plan.frame.facts.now) (range_with_len 0 l.set)));
 }

@@ -41,7 +41,7 @@ extend-requires-clause-overwritten c =
     let e = listed_in g table k c.args.frame.now.scope.now in
     let i = c.loop-part.part-index in
     let lt = c.loop-part-test.true in
-    part_knows (get_or all_parts i Memory) _ e (c.overwritten.ensures ∙ ap (λ (p : Plan). p.overwritten) c.in_ok-encoded.ensures.plan)
+    part_knows (get_or all_parts i Memory) _ e (c.in_ok-over.ensures.first ∙ c.overwritten.ensures ∙ ap (λ (p : Plan). p.overwritten) c.in_ok-encoded.ensures.plan)
 
 pub extend-requires-clause-within : goal.extend-requires-clause-within
 extend-requires-clause-within c =
@@ -71,3 +71,9 @@ returns-clause-formula c =
     let e = listed_in g table k c.args.frame.now.scope.now in
     let i = c.loop-part.part-index in
     c.loop-part.invariant ∙ all_ended g table k e i (omega (arith, c.loop-part-test.false))
+
+pub extend-requires-clause-over : goal.extend-requires-clause-over
+extend-requires-clause-over c = record {
+  cycles_are = c.in_ok-over.ensures.cycles;
+  sets_are = c.in_ok-over.ensures.sets;
+}

@@ -5,8 +5,8 @@ use Rattle.order_encoding.proofs.whole.sizes_with.Goals as goal
 pub returns-clause-vars : goal.returns-clause-vars
 returns-clause-vars c =
     let is = c.counts_are_found.ensures.vars c.args.frame.now.facts.now c.args.frame.now.table.now c.args.frame.now.k c.args.frame.now.scope.now in
-    let cycles = c.cycle_sizes-cycle.ensures.vars in
-    let memory = c.memory_sizes.ensures.vars in
+    let cycles = c.requires.first.cycle_vars in
+    let memory = c.requires.first.memory_vars in
     let guard = c.guard_sizes.ensures.vars in
     let pool = c.in_ok-pool_sizes.ensures.vars in
     let pins = c.pins_sizes.ensures.vars in
@@ -21,8 +21,8 @@ returns-clause-vars c =
 pub returns-clause-clauses : goal.returns-clause-clauses
 returns-clause-clauses c =
     let is = c.counts_are_found.ensures.clauses c.args.frame.now.facts.now c.args.frame.now.table.now c.args.frame.now.k c.args.frame.now.scope.now in
-    let cycles = c.cycle_sizes-cycle.ensures.clauses in
-    let memory = c.memory_sizes.ensures.clauses in
+    let cycles = c.requires.first.cycle_size in
+    let memory = c.requires.first.memory_size in
     let guard = c.guard_sizes.ensures.clauses in
     let pool = c.in_ok-pool_sizes.ensures.clauses in
     let pins = c.pins_sizes.ensures.clauses in
@@ -36,10 +36,10 @@ returns-clause-clauses c =
 
 pub returns-clause-few : goal.returns-clause-few
 returns-clause-few c =
-    let cycle_vars = c.cycle_sizes-cycle.ensures.few_vars in
-    let cycle_clauses = c.cycle_sizes-cycle.ensures.few_clauses in
-    let memory_vars = c.memory_sizes.ensures.few_vars in
-    let memory_clauses = c.memory_sizes.ensures.few_clauses in
+    let cycle_vars = c.requires.first.few_cycle_vars in
+    let cycle_clauses = c.requires.first.few_cycle_clauses in
+    let memory_vars = c.requires.first.few_memory_vars in
+    let memory_clauses = c.requires.first.few_memory_clauses in
     let guard_vars = c.guard_sizes.ensures.few_vars in
     let guard_clauses = c.guard_sizes.ensures.few_clauses in
     let pool_vars = c.in_ok-pool_sizes.ensures.few_vars in
@@ -64,3 +64,103 @@ returns-clause-few c =
     let c4 = four.clauses in
     let c5 = five.clauses in
     (omega arith, omega arith)
+
+pub both-with_memory-requires-clause-vars : goal.both-with_memory-requires-clause-vars
+both-with_memory-requires-clause-vars c =
+    let a = c.requires.first.few_cycle_vars in
+    let b = c.requires.first.few_memory_vars in
+    omega arith
+
+pub both-with_memory-requires-clause-clauses : goal.both-with_memory-requires-clause-clauses
+both-with_memory-requires-clause-clauses c =
+    let a = c.requires.first.few_cycle_clauses in
+    let b = c.requires.first.few_memory_clauses in
+    omega arith
+
+pub both-with_guard-requires-clause-vars : goal.both-with_guard-requires-clause-vars
+both-with_guard-requires-clause-vars c =
+    let a = c.requires.first.few_cycle_vars in
+    let b = c.requires.first.few_memory_vars in
+    let s1 = c.both-with_memory.ensures.vars in
+    let p1 = c.guard_sizes.ensures.few_vars in
+    omega arith
+
+pub both-with_guard-requires-clause-clauses : goal.both-with_guard-requires-clause-clauses
+both-with_guard-requires-clause-clauses c =
+    let a = c.requires.first.few_cycle_clauses in
+    let b = c.requires.first.few_memory_clauses in
+    let s1 = c.both-with_memory.ensures.clauses in
+    let p1 = c.guard_sizes.ensures.few_clauses in
+    omega arith
+
+pub both-with_pool-requires-clause-vars : goal.both-with_pool-requires-clause-vars
+both-with_pool-requires-clause-vars c =
+    let a = c.requires.first.few_cycle_vars in
+    let b = c.requires.first.few_memory_vars in
+    let s1 = c.both-with_memory.ensures.vars in
+    let p1 = c.guard_sizes.ensures.few_vars in
+    let s2 = c.both-with_guard.ensures.vars in
+    let p2 = c.in_ok-pool_sizes.ensures.few_vars in
+    omega arith
+
+pub both-with_pool-requires-clause-clauses : goal.both-with_pool-requires-clause-clauses
+both-with_pool-requires-clause-clauses c =
+    let a = c.requires.first.few_cycle_clauses in
+    let b = c.requires.first.few_memory_clauses in
+    let s1 = c.both-with_memory.ensures.clauses in
+    let p1 = c.guard_sizes.ensures.few_clauses in
+    let s2 = c.both-with_guard.ensures.clauses in
+    let p2 = c.in_ok-pool_sizes.ensures.few_clauses in
+    omega arith
+
+pub both-with_pins-requires-clause-vars : goal.both-with_pins-requires-clause-vars
+both-with_pins-requires-clause-vars c =
+    let a = c.requires.first.few_cycle_vars in
+    let b = c.requires.first.few_memory_vars in
+    let s1 = c.both-with_memory.ensures.vars in
+    let p1 = c.guard_sizes.ensures.few_vars in
+    let s2 = c.both-with_guard.ensures.vars in
+    let p2 = c.in_ok-pool_sizes.ensures.few_vars in
+    let s3 = c.both-with_pool.ensures.vars in
+    let p3 = c.pins_sizes.ensures.few_vars in
+    omega arith
+
+pub both-with_pins-requires-clause-clauses : goal.both-with_pins-requires-clause-clauses
+both-with_pins-requires-clause-clauses c =
+    let a = c.requires.first.few_cycle_clauses in
+    let b = c.requires.first.few_memory_clauses in
+    let s1 = c.both-with_memory.ensures.clauses in
+    let p1 = c.guard_sizes.ensures.few_clauses in
+    let s2 = c.both-with_guard.ensures.clauses in
+    let p2 = c.in_ok-pool_sizes.ensures.few_clauses in
+    let s3 = c.both-with_pool.ensures.clauses in
+    let p3 = c.pins_sizes.ensures.few_clauses in
+    omega arith
+
+pub both-requires-clause-vars : goal.both-requires-clause-vars
+both-requires-clause-vars c =
+    let a = c.requires.first.few_cycle_vars in
+    let b = c.requires.first.few_memory_vars in
+    let s1 = c.both-with_memory.ensures.vars in
+    let p1 = c.guard_sizes.ensures.few_vars in
+    let s2 = c.both-with_guard.ensures.vars in
+    let p2 = c.in_ok-pool_sizes.ensures.few_vars in
+    let s3 = c.both-with_pool.ensures.vars in
+    let p3 = c.pins_sizes.ensures.few_vars in
+    let s4 = c.both-with_pins.ensures.vars in
+    let p4 = c.capacity_sizes.ensures.few_vars in
+    omega arith
+
+pub both-requires-clause-clauses : goal.both-requires-clause-clauses
+both-requires-clause-clauses c =
+    let a = c.requires.first.few_cycle_clauses in
+    let b = c.requires.first.few_memory_clauses in
+    let s1 = c.both-with_memory.ensures.clauses in
+    let p1 = c.guard_sizes.ensures.few_clauses in
+    let s2 = c.both-with_guard.ensures.clauses in
+    let p2 = c.in_ok-pool_sizes.ensures.few_clauses in
+    let s3 = c.both-with_pool.ensures.clauses in
+    let p3 = c.pins_sizes.ensures.few_clauses in
+    let s4 = c.both-with_pins.ensures.clauses in
+    let p4 = c.capacity_sizes.ensures.few_clauses in
+    omega arith
