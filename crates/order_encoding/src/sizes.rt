@@ -108,10 +108,7 @@ pub fn guard_sizes(frame: &Frame) -> Sizes
     let branches = tally_all(frame, Tally::Branches);
     Sizes {
         vars: u64::from(frame.k) + one_vars(branches),
-        clauses: 1
-            + one_size(branches)
-            + tally_all(frame, Tally::Waits)
-            + u64::from(frame.k),
+        clauses: 1 + one_size(branches) + tally_all(frame, Tally::Waits) + u64::from(frame.k),
     }
 }
 
