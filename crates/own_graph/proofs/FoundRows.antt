@@ -42,6 +42,9 @@ pub applies_same : (op : Op) (operands : List ℕ) (r : LaunchRow) → r.op ≡ 
 applies_same op operands r e f =
     and_from (is_op r.op op) (bytes_eq r.operands operands) (subst (λ o. is_op r.op o ≡ true) e (is_op_itself r.op)) ((bytes_eq-Decides r.operands operands).1 f)
 
+its_operands : (op : Op) (operands : List ℕ) (r : LaunchRow) → applies op operands r ≡ true → r.operands ≡ operands
+its_operands op operands r e = (bytes_eq-Decides r.operands operands).0 (and_parts (is_op r.op op) (bytes_eq r.operands operands) e).1
+
 pub its_op : (op : Op) (operands : List ℕ) (r : LaunchRow) → applies op operands r ≡ true → r.op ≡ op
 its_op op operands r e = one_op r.op op (and_parts (is_op r.op op) (bytes_eq r.operands operands) e).0
 
@@ -89,6 +92,7 @@ pub record IsFound (rows : List LaunchRow) (op : Op) (operands : List ℕ) (clas
   pub row : LaunchRow
   pub there : Contains rows row
   pub op_is : row.op ≡ op
+  pub operands_are : row.operands ≡ operands
   pub of_class : row.class ≡ class
 
 pub found : (rows : List LaunchRow) (op : Op) (operands : List ℕ) (class : ℕ) → class_in rows op operands ≡ Some class → IsFound rows op operands class
@@ -98,7 +102,7 @@ found rows op operands class e = by (find (applies op operands) rows) refl e
     by None f g = absurd (none-some class g)
     by (Some r) f g =
         let is = found_in (applies op operands) rows r f in
-        record { row = r; there = is.0; op_is = its_op op operands r is.1; of_class = same_Some r.class class g }
+        record { row = r; there = is.0; op_is = its_op op operands r is.1; operands_are = its_operands op operands r is.1; of_class = same_Some r.class class g }
 
 pub not_found : (rows : List LaunchRow) (op : Op) (operands : List ℕ) (k : ℕ) (d : LaunchRow) → class_in rows op operands ≡ None → k < length rows → (get_or rows k d).op ≡ op → (get_or rows k d).operands ≡ operands → ⊥
 not_found rows op operands k d e l f g = by (find (applies op operands) rows) refl e

@@ -7,3 +7,6 @@ mod Placed
 mod Registers
 mod OwnRuns
 mod OwnGoals
+mod OwnValues
+mod OwnMeaning
+mod OwnTruth

@@ -1,5 +1,5 @@
 -- The rows by which the graph knows of which numbers addresses are multiples: they are rows of a launch graph.
-use Rattle.std.proofs.Common.{◌≡◌, ℕ, zero, suc, ◌-◌, ◌^◌, ◌<◌, ◌≤◌, ◌==◌, Bool, true, false, List, [], ◌∷◌, ◌++◌, length, Option, Some, None, refl, sym, ◌∙◌, subst, arith, fold, is_some, if◌then◌else◌, slice_index, All, Contains}
+use Rattle.std.proofs.Common.{◌≡◌, ℕ, zero, suc, ℤ, pos, negsuc, ◌-◌, ◌^◌, ◌<◌, ◌≤◌, ◌==◌, Bool, true, false, List, [], ◌∷◌, ◌++◌, length, Option, Some, None, refl, sym, ◌∙◌, subst, arith, fold, is_some, if◌then◌else◌, slice_index, All, Contains, FitsSigned, w16}
 use Rattle.std.proofs.lemmas.List.Elements.{All-head, All-tail, All-weaker}
 use Rattle.std.proofs.lemmas.Option.{none-some}
 use Rattle.word_ops.specs.Meanings.{constant_in}
@@ -14,6 +14,7 @@ use Rattle.word_ops.specs.declared.sorts.Sort.TheVariants as sorts
 use Rattle.graph_meaning.specs.Graphs.{plain_row}
 use Rattle.graph_meaning.specs.WellFormed.{declared_index, next_class, register_of_input}
 use Rattle.graph_meaning.specs.declared.graphs.LaunchRow.{LaunchRow}
+use Rattle.code_check.specs.Terms.{sign_extended}
 use Rattle.code_lift.specs.declared.lifting.Address.{Address}
 use Rattle.code_lift.specs.declared.lifting.Value.{Value}
 use Rattle.code_lift.specs.declared.lifting.Value.TheVariants.{Entry, Let, Zero}
@@ -66,7 +67,7 @@ number_is rows n low = (own_constant n low, refl, refl)
 
 -- ---- the row that is 0
 
-two_sorts : (rows : List LaunchRow) (a b : ℕ) → HasSort rows sorts.Word a → HasSort rows sorts.Word b → TakesSorts rows and_op (a ∷ b ∷ [])
+pub two_sorts : (rows : List LaunchRow) (a b : ℕ) → HasSort rows sorts.Word a → HasSort rows sorts.Word b → TakesSorts rows and_op (a ∷ b ∷ [])
 two_sorts rows a b h k zero l = h
 two_sorts rows a b h k (suc zero) l = k
 two_sorts rows a b h k (suc (suc at)) l = absurd (omega (arith, l))
@@ -145,7 +146,7 @@ address_behind rows base n = by (n == 0)
     by true = not_longer rows
     by false = applied_behind rows (ops.Word words.Lda) (base ∷ number n ∷ [])
 
-address_is : (rows : List LaunchRow) (base : Part) (n : ℕ) → IsPart rows sorts.Word base → IsPart (with_address rows base n) sorts.Word (address_part rows base n)
+pub address_is : (rows : List LaunchRow) (base : Part) (n : ℕ) → IsPart rows sorts.Word base → IsPart (with_address rows base n) sorts.Word (address_part rows base n)
 address_is rows base n is = by (n == 0)
   where
     by : (b : Bool) → IsPart (if b then rows else with_applied rows (ops.Word words.Lda) (base ∷ number n ∷ [])) sorts.Word (if b then base else Class (applied_class rows (ops.Word words.Lda) (base ∷ number n ∷ [])))
@@ -160,9 +161,22 @@ IsKnownValue rows values (Entry r) = r < 31
 IsKnownValue rows values Zero = Unit {0}
 IsKnownValue rows values (Let n) = (n < length values) × HasSort rows sorts.Word (slice_index values n)
 
+pub extended_word : (disp : ℤ) → FitsSigned w16 disp → IsWord (sign_extended disp)
+extended_word (pos n) h = let l = h.sfits in omega (arith, l)
+extended_word (negsuc n) h = omega arith
+
+-- the word of a displacement
+pub record IsShort (n : ℕ) : Type 0 where
+  pub disp : ℤ
+  pub fits : FitsSigned w16 disp
+  pub is : n ≡ sign_extended disp
+
+pub short_word : (n : ℕ) → IsShort n → IsWord n
+short_word n h = subst IsWord (sym h.is) (extended_word h.disp h.fits)
+
 pub record IsKnownAddress (rows : List LaunchRow) (values : List ℕ) (a : Address) : Type 0 where
   pub value : IsKnownValue rows values a.value
-  pub word : IsWord a.displacement
+  pub short : IsShort a.displacement
   pub power : a.power < 4
 
 pub value_is : (rows : List LaunchRow) (values : List ℕ) (v : Value) → IsKnownValue rows values v → IsPart rows sorts.Word (value_part values v)
@@ -175,10 +189,10 @@ value_stays rows longer values (Entry r) h k = k
 value_stays rows longer values Zero h k = k
 value_stays rows longer values (Let n) h k = (k.0, sort_stays rows longer sorts.Word (slice_index values n) h k.1)
 
-address_stays : (rows longer : List LaunchRow) (values : List ℕ) → IsLonger rows longer → (a : Address) → IsKnownAddress rows values a → IsKnownAddress longer values a
-address_stays rows longer values h a k = record { value = value_stays rows longer values a.value h k.value; word = k.word; power = k.power }
+pub address_stays : (rows longer : List LaunchRow) (values : List ℕ) → IsLonger rows longer → (a : Address) → IsKnownAddress rows values a → IsKnownAddress longer values a
+address_stays rows longer values h a k = record { value = value_stays rows longer values a.value h k.value; short = k.short; power = k.power }
 
-low_mask : (power : ℕ) → power < 4 → IsWord (2 ^ power - 1)
+pub low_mask : (power : ℕ) → power < 4 → IsWord (2 ^ power - 1)
 low_mask zero l = omega arith
 low_mask (suc zero) l = omega arith
 low_mask (suc (suc zero)) l = omega arith
@@ -190,7 +204,7 @@ multiple_keeps rows values a own is =
     let base = value_part values a.value in
     let base_is = value_is rows values a.value is.value in
     low_bits_keep (with_address rows base a.displacement) (address_part rows base a.displacement) (2 ^ a.power - 1)
-    (address_keeps rows base a.displacement own base_is is.word)
+    (address_keeps rows base a.displacement own base_is (short_word a.displacement is.short))
     (address_is rows base a.displacement base_is) (low_mask a.power is.power)
 
 pub multiple_behind : (rows : List LaunchRow) (values : List ℕ) (a : Address) → IsLonger rows (with_multiple values rows a)

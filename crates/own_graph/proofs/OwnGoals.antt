@@ -62,7 +62,7 @@ pairs_map R f (x ∷ xs) h =
     AllPairs-cons R (f x) (map f xs) (All-map (R (f x)) f xs (λ k d l. h zero (suc k) d (omega arith) (omega (arith, l))))
     (pairs_map R f xs (λ i j d l m. h (suc i) (suc j) d (omega (arith, l)) (omega (arith, m))))
 
-formed_words : WordsAreFormed → (words : List ℕ) → All IsPlainWord words → All IsWellFormed (filter_map decoded words)
+pub formed_words : WordsAreFormed → (words : List ℕ) → All IsPlainWord words → All IsWellFormed (filter_map decoded words)
 formed_words law [] plain = All-nil IsWellFormed
 formed_words law (w ∷ words) plain =
     let h = All-head IsPlainWord w words plain in
@@ -202,10 +202,10 @@ module _ (words_law : WordsAreFormed) (lift : LiftTree) (is : IsLift lift) where
       known_from (inputs_read s) 0 (filter_map decoded lift.words) at_start (own_start (inputs_read s))
       (formed_words words_law lift.words is.rules.words) (known_start (inputs_read s) (low_inputs lift))
 
-  longer : IsLonger o.rows rows
+  pub longer : IsLonger o.rows rows
   longer = multiples_behind o.rows o.values s.addresses
 
-  rows_are : AreOwnRows rows
+  pub rows_are : AreOwnRows rows
   rows_are = multiples_keep o.rows o.values s.addresses behind_known.rows behind_known.addresses
 
   pub behind_room : (n : ℕ) → n + 2 ^ 12 < 2 ^ 32 → HasRoom n o.rows

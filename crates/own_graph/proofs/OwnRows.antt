@@ -199,7 +199,7 @@ pub part_stays_own : (rows longer : List LaunchRow) (sort : Sort) (part : Part) 
 part_stays_own rows longer sort (Class c) h k = sort_stays rows longer sort c h k
 part_stays_own rows longer sort (Leaf op) h k = k
 
-parts_stay_own : (rows longer : List LaunchRow) (sorts : ℕ → Sort) (parts : List Part) → IsLonger rows longer → AreParts rows sorts parts → AreParts longer sorts parts
+pub parts_stay_own : (rows longer : List LaunchRow) (sorts : ℕ → Sort) (parts : List Part) → IsLonger rows longer → AreParts rows sorts parts → AreParts longer sorts parts
 parts_stay_own rows longer sorts [] h k = tt
 parts_stay_own rows longer sorts (part ∷ parts) h k = (part_stays_own rows longer (sorts 0) part h k.0, parts_stay_own rows longer (λ at. sorts (suc at)) parts h k.1)
 
@@ -228,7 +228,7 @@ part_sort rows sort (Leaf op) h k = by (class_in rows op []) refl k
         let settled : class_with rows op [] ≡ class = cc in
         subst (HasSort rows sort) (sym settled) (subst (λ s. HasSort rows s class) h.2 (found_sort rows op [] class e))
 
-classes_sorts : (sorts : ℕ → Sort) (rows : List LaunchRow) (parts : List Part) → AreParts rows sorts parts → (at : ℕ) → at < length parts → HasSort (with_leaves rows parts) (sorts at) (slice_index (classes_of (with_leaves rows parts) parts) at)
+pub classes_sorts : (sorts : ℕ → Sort) (rows : List LaunchRow) (parts : List Part) → AreParts rows sorts parts → (at : ℕ) → at < length parts → HasSort (with_leaves rows parts) (sorts at) (slice_index (classes_of (with_leaves rows parts) parts) at)
 classes_sorts sorts rows parts h at l =
     let all = with_leaves rows parts in
     let part = get_or parts at (Class 0) in

@@ -1,5 +1,5 @@
 -- The rows behind words are rows of a launch graph, and what each word writes is in a class of its sort.
-use Rattle.std.proofs.Common.{◌≡◌, ℕ, zero, suc, ℤ, pos, negsuc, ◌+◌, ◌^◌, ◌<◌, ◌≤◌, ◌%◌, ◌==◌, Bool, true, false, List, [], ◌∷◌, ◌++◌, length, map, Option, Some, None, option_map, refl, sym, ap, ap₂, ◌∙◌, subst, arith, fold, inl, inr, ◌⊎◌, ⊎_elim, IfSome, if◌then◌else◌, slice_index, All, FitsSigned, w16}
+use Rattle.std.proofs.Common.{◌≡◌, ℕ, zero, suc, ℤ, pos, ◌+◌, ◌^◌, ◌<◌, ◌≤◌, ◌%◌, ◌==◌, Bool, true, false, List, [], ◌∷◌, ◌++◌, length, map, Option, Some, None, option_map, refl, sym, ap, ap₂, ◌∙◌, subst, arith, fold, inl, inr, ◌⊎◌, ⊎_elim, IfSome, if◌then◌else◌, slice_index, All, FitsSigned, w16}
 use Rattle.std.specs.List.{list_any}
 use Rattle.std.proofs.lemmas.Bool.{cases_lt}
 use Rattle.std.proofs.lemmas.List.{get_or_append_left, get_or_past, get_or_push, length_push}
@@ -39,7 +39,7 @@ use Rattle.own_graph.specs.Rows.{HasItsRow, applied_class, class_in, with_applie
 use Rattle.own_graph.specs.declared.operands.Part.{Part}
 use Rattle.own_graph.specs.declared.operands.Part.TheVariants.{Leaf}
 use Rattle.own_graph.proofs.FoundRows.{IsLonger, applied_behind, class_stays, has_leaf, longer_still, not_longer, row_behind, row_stays}
-use Rattle.own_graph.proofs.OwnAddresses.{IsKnownAddress, IsKnownValue, number_is, own_entry, own_input_op, own_load, own_put, own_select, own_store, own_word, value_is}
+use Rattle.own_graph.proofs.OwnAddresses.{IsKnownAddress, IsKnownValue, IsShort, extended_word, number_is, own_entry, own_input_op, own_load, own_put, own_select, own_store, own_word, value_is}
 use Rattle.own_graph.proofs.OwnRows.{AreOwnRows, AreParts, HasSort, IsOwnOp, IsPart, applied_keeps, applied_sort, own_push, row_keeps, sort_stays}
 
 -- ---- what is known behind words
@@ -66,7 +66,7 @@ first_below (suc n) =
     (All-weaker (λ r. r < n) (λ r. r < suc n) (λ r l. omega (arith, l)) (first_numbers n) (first_below n))
     (All-cons (λ r. r < suc n) n [] (omega arith) (All-nil (λ r. r < suc n)))
 
-no_rows : AreOwnRows []
+pub no_rows : AreOwnRows []
 no_rows = record {
   each = λ k d l. absurd (omega (arith, l));
   distinct = λ i j d l m. absurd (omega (arith, m));
@@ -75,7 +75,7 @@ no_rows = record {
   alike = λ r s h k e. absurd (let l = h.1 in omega (arith, l));
 }
 
-entry_rows : AreOwnRows (plain_row 0 ops.Entry [] ∷ [])
+pub entry_rows : AreOwnRows (plain_row 0 ops.Entry [] ∷ [])
 entry_rows =
     own_push [] (plain_row 0 ops.Entry []) no_rows
     (record { op_is = own_entry; arity = refl; operands = λ at l. absurd (omega (arith, l)); unnamed = refl })
@@ -125,10 +125,6 @@ operate_arity : (op : OperateOf) → ((is_unary op ≡ true) × ((row_of op).ari
 operate_arity operates.Sextb = inl (refl, refl)
 operate_arity operates.Sextw = inl (refl, refl)
 operate_arity _ = inr (refl, refl)
-
-extended_word : (disp : ℤ) → FitsSigned w16 disp → IsWord (sign_extended disp)
-extended_word (pos n) h = let l = h.sfits in omega (arith, l)
-extended_word (negsuc n) h = omega arith
 
 module _ (inputs : List ℕ) (s : Lifting) (o : Own) (known : IsKnown inputs s o) where
   pub known_latest : (r : ℕ) → IsKnownValue o.rows o.values (latest_of s r)
@@ -188,7 +184,7 @@ module _ (inputs : List ℕ) (s : Lifting) (o : Own) (known : IsKnown inputs s o
       by true = record { own = own_store access; many = refl; parts_are = (memory_part_is, (h, (k, tt))) }
       by false = record { own = own_put access; many = refl; parts_are = (memory_part_is, (h, (number_is o.rows n low, (k, tt)))) }
 
-  operands_fit : (i : Instr) → IsWellFormed i → Fits (own_op i) (operand_parts s o.values i)
+  pub operands_fit : (i : Instr) → IsWellFormed i → Fits (own_op i) (operand_parts s o.values i)
   operands_fit (Operate op ra second rc) h = operate_fits op (register_part s o.values ra) (second_part s o.values second) (register_is ra) (second_is second h.1)
   operands_fit (Lda ra rb disp) h = sum_fits words.Lda (register_part s o.values rb) (sign_extended disp) refl (extended_word disp h.2) (register_is rb)
   operands_fit (Ldah ra rb disp) h = sum_fits words.Ldah (register_part s o.values rb) (sign_extended disp) refl (extended_word disp h.2) (register_is rb)
@@ -245,12 +241,12 @@ unless_none : (b : Bool) (o : Option ℕ) → IsLowPower o → IsLowPower (if b 
 unless_none true o h = tt
 unless_none false o h = h
 
-multiple_known : (rows : List LaunchRow) (values : List ℕ) (v : Value) (n : ℕ) (power : Option ℕ) → IsKnownValue rows values v → IsWord n → IsLowPower power → IfSome (option_map (multiple_from v n) power) (IsKnownAddress rows values)
+multiple_known : (rows : List LaunchRow) (values : List ℕ) (v : Value) (n : ℕ) (power : Option ℕ) → IsKnownValue rows values v → IsShort n → IsLowPower power → IfSome (option_map (multiple_from v n) power) (IsKnownAddress rows values)
 multiple_known rows values v n None h low p = tt
-multiple_known rows values v n (Some power) h low p = record { value = h; word = by (n % 2 ^ power == 0); power = p }
+multiple_known rows values v n (Some power) h low p = record { value = h; short = by (n % 2 ^ power == 0); power = p }
   where
-    by : (b : Bool) → IsWord (if b then 0 else n)
-    by true = omega arith
+    by : (b : Bool) → IsShort (if b then 0 else n)
+    by true = record { disp = pos 0; fits = record { sfits = omega arith }; is = refl }
     by false = low
 
 with_known : (P : Address → Type 0) (before : List Address) (a : Option Address) → All P before → IfSome a P → All P (with_address before a)
@@ -262,14 +258,17 @@ with_known P before (Some a) h k = by (list_any (is_same_address a) before)
     by false = All-push P before a h k
 
 module _ (inputs : List ℕ) (s : Lifting) (o : Own) (known : IsKnown inputs s o) where
+  short_of : (disp : ℤ) → FitsSigned w16 disp → IsShort (sign_extended disp)
+  short_of disp fits = record { disp = disp; fits = fits; is = refl }
+
   address_known : (i : Instr) → IsWellFormed i → IfSome (trapping_address i s) (IsKnownAddress o.rows o.values)
   address_known (Operate op ra second rc) h = tt
   address_known (Lda ra rb disp) h = tt
   address_known (Ldah ra rb disp) h = tt
-  address_known (Load access ra rb disp) h = multiple_known o.rows o.values (latest_of s rb) (sign_extended disp) (alignment (Load access ra rb disp)) (known_latest inputs s o known rb) (extended_word disp h.2) (unless_none (ra == 31) (needed_alignment (accesses.alignment access)) (low_access access))
-  address_known (Store access ra rb disp) h = multiple_known o.rows o.values (latest_of s rb) (sign_extended disp) (alignment (Store access ra rb disp)) (known_latest inputs s o known rb) (extended_word disp h.2) (low_access access)
-  address_known (Ldq ra rb disp) h = multiple_known o.rows o.values (latest_of s rb) (sign_extended disp) (alignment (Ldq ra rb disp)) (known_latest inputs s o known rb) (extended_word disp h.2) (unless_none (ra == 31) (Some 3) (omega arith))
-  address_known (Stq ra rb disp) h = multiple_known o.rows o.values (latest_of s rb) (sign_extended disp) (Some 3) (known_latest inputs s o known rb) (extended_word disp h.2) (omega arith)
+  address_known (Load access ra rb disp) h = multiple_known o.rows o.values (latest_of s rb) (sign_extended disp) (alignment (Load access ra rb disp)) (known_latest inputs s o known rb) (short_of disp h.2) (unless_none (ra == 31) (needed_alignment (accesses.alignment access)) (low_access access))
+  address_known (Store access ra rb disp) h = multiple_known o.rows o.values (latest_of s rb) (sign_extended disp) (alignment (Store access ra rb disp)) (known_latest inputs s o known rb) (short_of disp h.2) (low_access access)
+  address_known (Ldq ra rb disp) h = multiple_known o.rows o.values (latest_of s rb) (sign_extended disp) (alignment (Ldq ra rb disp)) (known_latest inputs s o known rb) (short_of disp h.2) (unless_none (ra == 31) (Some 3) (omega arith))
+  address_known (Stq ra rb disp) h = multiple_known o.rows o.values (latest_of s rb) (sign_extended disp) (Some 3) (known_latest inputs s o known rb) (short_of disp h.2) (omega arith)
   address_known (Beq ra disp) h = tt
 
   -- ---- behind one instruction more
@@ -322,7 +321,7 @@ module _ (inputs : List ℕ) (s : Lifting) (o : Own) (known : IsKnown inputs s o
     old_memory (Some n) h = old_class sorts.Memory n h
 
     old_address : (a : Address) → IsKnownAddress o.rows o.values a → IsKnownAddress rows values a
-    old_address a h = record { value = old_value a.value h.value; word = h.word; power = h.power }
+    old_address a h = record { value = old_value a.value h.value; short = h.short; power = h.power }
 
     old_address_there : (a : Option Address) → IfSome a (IsKnownAddress o.rows o.values) → IfSome a (IsKnownAddress rows values)
     old_address_there None h = tt

@@ -1,3 +1,4 @@
 pub mod Rows
 pub mod Own
 pub mod OwnView
+pub mod Meaning

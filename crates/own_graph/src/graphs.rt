@@ -7,6 +7,7 @@ ghost use Rattle.code_lift.specs.WellFormed.{IsLift};
 ghost use Rattle.goal_meaning.specs.Rules.{has_register};
 ghost use Rattle.goal_meaning.specs.Views.{target_view};
 ghost use Rattle.graph_meaning.specs.WellFormed.{IsLaunchGraph};
+ghost use Rattle.own_graph.specs.Meaning.{IsTrueOf};
 ghost use Rattle.own_graph.specs.Own as own_graphs;
 ghost use Rattle.own_graph.specs.Own.{IsOwnGraph};
 ghost use Rattle.own_graph.specs.OwnView.{AreGiven, own_view};
@@ -19,14 +20,15 @@ use crate::operands::Part;
 use crate::rows::class_in;
 use crate::stepping::{Own, memory_part};
 use alpha_encode::{decode, words_and_instructions};
-use code_lift::{Lift, Lifting, goal, goals_of_lifts_are_well_formed};
+use alpha_machine::displacements_are_low_bits;
+use code_lift::{Lift, Lifting, goal, goals_of_lifts_are_well_formed, lifted_goals_are_their_code};
 use goal_meaning::{InputReg, Set};
 use graph_meaning::{
     InputClass, LaunchGraph, LaunchRow, SetClass, graphs_are_consistent, known_multiples,
 };
 use items::{Items, NoMemory};
 use std::alloc::Global;
-use word_ops::Op;
+use word_ops::{Op, meanings_are_in_range};
 
 fn input_registers(alloc: Global, inputs: &[InputReg]) -> Result<Vec<u8>, NoMemory>
     ensures { IfOk result (λ registers. registers.items ≡ map (λ i. i.reg) inputs.now) }
@@ -166,10 +168,14 @@ pub fn own_graph(alloc: Global, lift: &Lift) -> Result<LaunchGraph, NoMemory>
     requires { IsLift (lift_view lift.now) }
     ensures own { IfOk result (IsOwnGraph (lift_view lift.now)) }
     ensures well_formed { IfOk result IsLaunchGraph }
+    ensures is_true { IfOk result (IsTrueOf lift.now.words) }
 {
     words_and_instructions();
     graphs_are_consistent();
     goals_of_lifts_are_well_formed();
+    lifted_goals_are_their_code();
+    displacements_are_low_bits();
+    meanings_are_in_range();
     let goal = goal(alloc, lift)?;
     let registers = input_registers(alloc, goal.inputs.as_slice())?;
     let (lifting, mut own) = run(alloc, lift, &registers)?;

@@ -1,4 +1,4 @@
-use Rattle.std.proofs.Common.{◌≡◌, length, map, fold, None, refl, sym, ap, ap₂, ◌∙◌, subst, All}
+use Rattle.std.proofs.Common.{◌≡◌, [], length, map, fold, None, refl, sym, ap, ap₂, ◌∙◌, subst, All}
 use Rattle.word_ops.specs.declared.sorts.Op.TheVariants.{Input}
 use Rattle.graph_meaning.specs.Multiples.{AreMultiplesOf}
 use Rattle.goal_meaning.specs.Views.{target_view}
@@ -10,6 +10,8 @@ use Rattle.own_graph.specs.OwnView.{IsGiven, own_view}
 use Rattle.own_graph.specs.Rows.{HasItsRow}
 use Rattle.own_graph.specs.declared.operands.Part.TheVariants.{Leaf}
 use Rattle.own_graph.proofs.OwnGoals.{IsBehind, WordsAreFormed, addresses_are_given, few_rows_of, has_room, inputs_have_rows, inputs_made, is_launch_graph, pool_made, powers_are_low, registers_of_lift, rows_are_below, rows_of_lift, sets_have_low_pins, sets_have_rows, sets_made, values_are_given}
+use Rattle.own_graph.proofs.OwnMeaning.{AreDisplaced}
+use Rattle.own_graph.proofs.OwnTruth.{is_true_of}
 use Rattle.own_graph.proofs.graphs.own_graph.Goals as goal
 
 pub run-requires-clause-inputs : goal.run-requires-clause-inputs
@@ -126,4 +128,10 @@ returns c =
       guard = refl;
       sets = c.in_ok-sets.ensures ∙ sets_made lift s o behind c.as_slice-3.result.now (ap (map target_view) c.as_slice-3.ensures ∙ sets_are);
     } in
-    record { own = own; well_formed = is_launch_graph law lift c.requires _ own c.goals_of_lifts_are_well_formed.ensures.well_formed }
+    let displaced : AreDisplaced = record { low = c.displacements_are_low_bits.ensures.low; high = c.displacements_are_low_bits.ensures.high } in
+    record {
+      own = own;
+      well_formed = is_launch_graph law lift c.requires _ own c.goals_of_lifts_are_well_formed.ensures.well_formed;
+      is_true = is_true_of law displaced (λ w is_world op vs. c.meanings_are_in_range.ensures.values w (λ n. []) op vs is_world)
+          c.lifted_goals_are_their_code.ensures.does c.lifted_goals_are_their_code.ensures.decided lift c.requires _ own;
+    }
