@@ -1,6 +1,6 @@
--- What the launch graph of words says of running them: wherever they don't trap its rows are true, and its sets are what
--- the words leave. Source: this project, over the launch graphs of Denali (PLDI 2002); the Alpha Architecture Handbook,
--- version 4, for what running words does.
+-- What the launch graph of words says of running them: wherever they don't trap its rows are true, and its sets are
+-- what the words leave. Source: this project, over the launch graphs of Denali (PLDI 2002); the Alpha Architecture
+-- Handbook, version 4, for what running words does.
 use Rattle.std.specs.Prelude.{◌≡◌, ℕ, List, slice_get, slice_index, Some}
 use Rattle.word_ops.specs.Worlds.{IsWorld, Value, World, memory, word}
 use Rattle.alpha_machine.specs.States.{MachineState}
@@ -12,8 +12,8 @@ use Rattle.graph_meaning.specs.declared.graphs.SetClass.{SetClass}
 use Rattle.code_check.specs.Outcomes.{entry_state}
 use Rattle.code_lift.specs.Promises.{TrapsOnTheWay}
 
--- the words run to their end; under some values of classes every row is true, and the classes of the sets have the memory
--- and the words that are left
+-- the words run to their end; under some values of classes every row is true, and the classes of the sets have the
+-- memory and the words that are left
 pub record SaysWhatRuns (words : List ℕ) (g : LaunchGraph) (world : World) : Type 0 where
   pub state : MachineState
   pub runs : Runs words (entry_state world) Fall state

@@ -4,8 +4,8 @@
 //! nobody needs; equal words are one. So the fewest cycles of its schedules are what the instructions can be done in at
 //! best.
 //!
-//! Proved: the graph is the one of its definition (`IsOwnGraph`) and well formed. In each world in which the words don't
-//! trap it is true, and its sets are the memory and the words that the words leave (`IsTrueOf`).
+//! Proved: the graph is the one of its definition (`IsOwnGraph`) and well formed. In each world in which the words
+//! don't trap it is true, and its sets are the memory and the words that the words leave (`IsTrueOf`).
 //!
 //! What nothing forced, and why:
 //! - The alignment condition `and A m` is a row of the class of 0. If a given word computes the same `and`, that row
